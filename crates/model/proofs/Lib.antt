@@ -1,0 +1,4 @@
+pub mod Search
+pub mod Heads
+pub mod Said
+pub mod Questions

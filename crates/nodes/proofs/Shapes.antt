@@ -1,0 +1,102 @@
+-- What stands where in a lent part: the Name that a node begins with, the nodes of a Field and a Call, and what a walk by `next` leaves out.
+use Prim.Native.Nat.{ℕ, zero, suc, _+_, _*_, _-_, _<_, _≤_}
+use mathlib.Core.Path.{_≡_, refl, ap, _∙_, sym, subst}
+use mathlib.Core.Bool.{Bool, true, false, not, true≢false}
+use mathlib.Core.List.{List, [], _∷_, List·Memᴰ}
+use mathlib.Core.Logic.{_⊎_, inl, inr, ⊎-elim}
+use native.Mathlib.Omega.{arith}
+use borrow.Author.Tests.{eqb-true, eq-eqb, ne-eqb, ltb-true, ltb-false, lt-ltb}
+use lib.Dec.{ltb, eqb, leb}
+use lib.ListN.{getD}
+use Rattle.image.specs.Pick.{pick, both, every}
+use Rattle.image.specs.Node.{kindOf, endOf}
+use Rattle.image.specs.Table.{partAt, rowOf, familyOf}
+use Rattle.image.specs.Admit.{nodesOf, nodeCount}
+use Rattle.image.proofs.Every.{every-at}
+use Rattle.image.proofs.Shape.{first-of, family-is, name-kind}
+use Rattle.image.proofs.Given.{given}
+use Rattle.image.proofs.Nest.{nests}
+use Rattle.rules.specs.Sweep.{has}
+use Rattle.rules.specs.Tree.{tree}
+use Rattle.rules.specs.Vocabulary.{Below}
+use Rattle.rules.specs.All.{parts}
+use Rattle.rules.proofs.Reflect.{tells-has}
+use Rattle.rules.proofs.Admitted.{admitted}
+use Rattle.nodes.specs.Shown.{View, In, treeOf}
+use Rattle.nodes.specs.First.{nameFirst, NameFirst}
+use Rattle.nodes.proofs.Parts.{inside, there, past, formed, kind-is, end-is}
+
+-- a row that begins with a Name
+name-test : ℕ → Bool
+name-test k = pick (has k nameFirst) (eqb (partAt (5 * k)) 68) true
+
+name-all : every name-test 46 ≡ true
+unfolding every name-test has partAt
+name-all = refl
+
+module _ {part : List ℕ} {b p : ℕ} (W : View part b) (i : In part b p) where
+  -- a node of such a kind: its Name follows
+  pub named-first : NameFirst (treeOf W .kind p) → In part b (p + 1) × (treeOf W .kind (p + 1) ≡ 23)
+  unfolding name-test
+  named-first k =
+      let u = inside W i in
+      let v = W .shown .high in
+      let N = formed W .node p (omega arith) in
+      let t : pick (has (treeOf W .kind p) nameFirst) (eqb (partAt (5 * treeOf W .kind p)) 68) true ≡ true = every-at name-test 46 (treeOf W .kind p) name-all (k .0) in
+      let a = eqb-true _ _ (rw (k .1) at t) in
+      let r : rowOf (treeOf W .kind p) ≡ 5 * treeOf W .kind p = simp (lt-ltb (treeOf W .kind p) 46 (k .0)) in
+      let f = first-of (nodesOf (W .image)) p (5 * treeOf W .kind p) 68 r (N .children) (let l = k .0 in omega arith) (sym a) refl in
+      let g = f .0 .inside in
+      let h = past W i .1 in
+      let w = i .0 in
+      (there W (omega arith) (omega arith), name-kind _ (family-is 68 _ 1 refl refl (f .0 .taken)))
+
+  -- a node within p's range stands in the part too
+  pub within : {q : ℕ} → p < q → q < treeOf W .end p → In part b q
+  within l h = let g = past W i .1 in let w = i .0 in there W (omega arith) (omega arith)
+
+  pub ends-within : {q : ℕ} → p < q → q < treeOf W .end p → (q < treeOf W .end q) × (treeOf W .end q ≤ treeOf W .end p)
+  ends-within {q} l h =
+      let u = inside W i in
+      let v = W .shown .high in
+      (past W (within l h) .0, nests (nodesOf (W .image)) (nodeCount (W .image)) (formed W) p q (omega arith) l h)
+
+-- what `next` leaves out holds no part
+part-none : {part : List ℕ} {b p : ℕ} (W : View part b) → In part b p → 0 < p → has (treeOf W .kind p) parts ≡ true → (j : ℕ) → p < j → j < treeOf W .end p → has (treeOf W .kind j) parts ≡ false
+part-none {part} {b} {p} W i z k j l h = go (has (treeOf W .kind j) parts) refl
+  where
+    go : (x : Bool) → has (treeOf W .kind j) parts ≡ x → has (treeOf W .kind j) parts ≡ false
+    go false e = e
+    go true e =
+        let u = inside W i in
+        let v = W .shown .high in
+        let r = formed W .root-end in
+        absurd
+        (admitted (W .image) (W .shown .admitted) .parts-flat p j
+        (record { after = z; inside = omega arith; kind = tells-has _ parts .so k })
+        (record { after = l; inside = h; kind = tells-has _ parts .so e }))
+
+-- the walk by `next` from p, within the range of node a: it moves on, stays within, and leaves out no part
+pub record Next {part : List ℕ} {b : ℕ} (W : View part b) (a p r : ℕ) : Type 0 where
+  pub on : p < r
+  pub within-end : r ≤ treeOf W .end a
+  pub leaves : (j : ℕ) → p < j → j < r → has (treeOf W .kind j) parts ≡ false
+
+pub next-is : {part : List ℕ} {b a p r : ℕ} (W : View part b) → In part b a → a < p → p < treeOf W .end a
+    → r ≡ pick (has (kindOf part (p - b)) parts) (endOf part (p - b)) (p + 1) → Next W a p r
+next-is {part} {b} {a} {p} {r} W i l h e = go (has (treeOf W .kind p) parts) refl (e ∙ ap (λ (k : ℕ). pick (has k parts) (endOf part (p - b)) (p + 1)) (kind-is W (within W i l h)) ∙ ap (λ (k : ℕ). pick (has (treeOf W .kind p) parts) k (p + 1)) (end-is W (within W i l h)))
+  where
+    go : (x : Bool) → has (treeOf W .kind p) parts ≡ x → r ≡ pick (has (treeOf W .kind p) parts) (treeOf W .end p) (p + 1) → Next W a p r
+    go true k d =
+        let q : r ≡ treeOf W .end p = rw k at d in
+        let m = ends-within W i l h in
+        record { on = omega arith; within-end = omega arith; leaves = λ j f g. part-none W (within W i l h) (omega arith) k j f (omega arith) }
+    go false k d = let q : r ≡ p + 1 = rw k at d in record { on = omega arith; within-end = omega arith; leaves = λ j f g. absurd (omega arith) }
+
+-- kinds that are parts: none of them is left out either
+pub not-part : (k : ℕ) (ks : List ℕ) → ((j : ℕ) → List·Memᴰ j ks → List·Memᴰ j parts) → has k parts ≡ false → has k ks ≡ false
+not-part k ks f e = go (has k ks) refl
+  where
+    go : (x : Bool) → has k ks ≡ x → has k ks ≡ false
+    go false d = d
+    go true d = absurd (true≢false (sym (tells-has k parts .back (f k (tells-has k ks .so d))) ∙ e))
