@@ -1,0 +1,59 @@
+//! The images that the comparisons run over: those written by hand first, then generated ones.
+
+use generate::patterns::patterns;
+use generate::{Rng, admitted, damaged, limits};
+
+/// How many images, and from which seed.
+#[derive(Clone, Copy, Debug)]
+pub struct Range {
+    pub images: u64,
+    pub seed: u64,
+}
+
+/// The hand-written images: patterns, and the limits on both sides.
+pub fn by_hand() -> Vec<(String, Vec<u8>)> {
+    let patterns = patterns().into_iter().map(|p| (p.name.to_string(), p.tree.image()));
+    patterns.chain(limits().into_iter().map(|l| (l.name, l.image))).collect()
+}
+
+/// The `index`-th admitted image of a seed.
+pub fn admitted_image(seed: u64, index: u64) -> Vec<u8> {
+    admitted(&mut Rng::of_image(seed, index))
+}
+
+/// The `index`-th damaged image of a seed.
+pub fn damaged_image(seed: u64, index: u64) -> Vec<u8> {
+    let mut rng = Rng::of_image(seed, index);
+    let image = admitted(&mut rng);
+    damaged(&mut rng, &image)
+}
+
+/// Every class: by hand, then three admitted ones to each damaged one.
+pub fn all_classes(range: Range) -> impl Iterator<Item = (String, Vec<u8>)> {
+    let generated = (0..range.images).map(move |index| match index % 4 {
+        3 => (format!("damaged image {index} of seed {}", range.seed), damaged_image(range.seed, index)),
+        _ => (format!("image {index} of seed {}", range.seed), admitted_image(range.seed, index)),
+    });
+    by_hand().into_iter().chain(generated)
+}
+
+/// Names to ask about: each of an admitted image, the same in the other case, its prefixes, names
+/// that the rules know, and bytes that are no name.
+pub fn names_to_ask(image: Option<&[u8]>, rng: &mut Rng) -> Vec<Vec<u8>> {
+    let mut names: Vec<Vec<u8>> =
+        ["QTOV", "qtov", "QTO", "QTOV0", "", "Q_Asset", "é", "a b"].map(|n| n.as_bytes().to_vec()).to_vec();
+    names.push((0..rng.below(6)).map(|_| rng.below(128) as u8).collect());
+    for name in image.map(|i| pack::Parts::of(i).names).unwrap_or_default() {
+        names.push(other_case(&name));
+        names.push(name[..name.len() - 1].to_vec());
+        names.push(name);
+    }
+    names
+}
+
+fn other_case(name: &[u8]) -> Vec<u8> {
+    let turn = |b: &u8| {
+        if b.is_ascii_uppercase() { b.to_ascii_lowercase() } else { b.to_ascii_uppercase() }
+    };
+    name.iter().map(turn).collect()
+}

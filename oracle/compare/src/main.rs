@@ -1,0 +1,79 @@
+//! `compare rust | patterns | report PATH | port | show FILE`: see `compare` without a word for
+//! the options.
+
+use compare::images::Range;
+use std::process::ExitCode;
+
+const USAGE: &str = "\
+compare rust [--images N] [--seed S]
+    the reference against the published Rust
+compare patterns
+    what document 01 says by hand against both
+compare report PATH [--lines image,resolve,access,linear,list,records] [--images N] [--seed S]
+    the reference against the report program at PATH, by the lines that it prints so far
+compare port [--what refusal,questions,access,linear,access_list,linear_list] [--images N] [--seed S]
+    the reference against the proved library, by what is linked
+compare show FILE
+    the tree of an image and the reference's report
+";
+
+fn main() -> ExitCode {
+    let arguments: Vec<String> = std::env::args().skip(1).collect();
+    compare::finish(run(&arguments))
+}
+
+fn run(arguments: &[String]) -> Result<String, String> {
+    let words: Vec<&str> = arguments.iter().map(String::as_str).collect();
+    match words.as_slice() {
+        ["rust", options @ ..] => compare::rust::run(range(options, 200_000)?),
+        ["patterns"] => compare::patterns::run(),
+        ["report", path, options @ ..] => {
+            let lines = words_of(options, "--lines")?;
+            compare::report::run(path, lines.as_deref(), range(options, 2_000)?)
+        }
+        ["port", options @ ..] => {
+            let what = words_of(options, "--what")?;
+            compare::port::run(what.as_deref(), range(options, 200_000)?)
+        }
+        ["show", file] => show(file),
+        _ => Err(USAGE.to_string()),
+    }
+}
+
+/// The value of an option, where it is given; every word must belong to an option that is known.
+fn option<'a>(options: &[&'a str], name: &str) -> Result<Option<&'a str>, String> {
+    let mut found = None;
+    for pair in options.chunks(2) {
+        let [option, value] = pair else {
+            return Err(USAGE.to_string());
+        };
+        if !["--images", "--seed", "--lines", "--what"].contains(option) {
+            return Err(USAGE.to_string());
+        }
+        if *option == name {
+            found = Some(*value);
+        }
+    }
+    Ok(found)
+}
+
+fn number(options: &[&str], name: &str, default: u64) -> Result<u64, String> {
+    match option(options, name)? {
+        None => Ok(default),
+        Some(text) => text.parse().map_err(|_| USAGE.to_string()),
+    }
+}
+
+fn range(options: &[&str], images: u64) -> Result<Range, String> {
+    Ok(Range { images: number(options, "--images", images)?, seed: number(options, "--seed", 1)? })
+}
+
+/// The words of an option that takes several, with commas between.
+fn words_of<'a>(options: &[&'a str], name: &str) -> Result<Option<Vec<&'a str>>, String> {
+    Ok(option(options, name)?.map(|text| text.split(',').collect()))
+}
+
+fn show(file: &str) -> Result<String, String> {
+    let image = std::fs::read(file).map_err(|e| format!("{file}: {e}\n"))?;
+    Ok(compare::dump(&image) + &reference::report(&image))
+}

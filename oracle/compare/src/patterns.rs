@@ -1,0 +1,69 @@
+//! `compare patterns`: what document 01 says by hand of P1 to P14, of its tempting mistakes, of the
+//! settled readings and of the limits, against the reference and, for verdicts, the Rust.
+
+use crate::judge;
+use crate::mismatch::{Mismatch, same};
+use generate::patterns::{Pattern, p2, patterns};
+use generate::{Limit, limits};
+use quanta_typeck::model::Model;
+use reference::{Pass, Record};
+
+/// Document 01's own example of a report, P2's.
+const P2_REPORT: &str = "resolve 0 0 0 0\naccess 0 0 0 0\nlinear 61 5 50 51\nlist 1\n61 5 0 50 51\n";
+
+/// Runs all; the text is what to print, and an `Err` is a failure.
+pub fn run() -> Result<String, String> {
+    let mut failures = Vec::new();
+    let mut note = |name: &str, outcome: Result<(), Mismatch>| {
+        if let Err(m) = outcome {
+            let Mismatch { what, reference, other } = m;
+            failures.push(format!("{name}: {what}: expected {reference}, got {other}"));
+        }
+    };
+    let (patterns, limits) = (patterns(), limits());
+    for pattern in &patterns {
+        note(pattern.name, pattern_holds(pattern));
+    }
+    for limit in &limits {
+        note(&limit.name, limit_holds(limit));
+    }
+    note("P2's bytes", same("length", 172, p2().image().len()));
+    note("P2's report", same("text", P2_REPORT, &reference::report(&p2().image())));
+    if failures.is_empty() {
+        Ok(format!("{} patterns and {} limits hold\n", patterns.len(), limits.len()))
+    } else {
+        Err(failures.join("\n") + "\n")
+    }
+}
+
+/// The reference gives the whole list, and each pass of the Rust gives the first of its part.
+fn pattern_holds(pattern: &Pattern) -> Result<(), Mismatch> {
+    let image = pattern.tree.image();
+    let expected = pattern.list();
+    let judged = match reference::judge(&image) {
+        Ok(judged) => judged,
+        Err(refusal) => return same("the refusal", 0, refusal),
+    };
+    same("the reference's list", expected.clone(), judged.list())?;
+    let contract = judge::contract(&judged.tree);
+    let model = Model::build(&contract);
+    for pass in Pass::ALL {
+        let first = expected.iter().find(|r| pass_of(r) == pass);
+        let verdict = first.map_or((0, 0), |r| (r.code, r.place));
+        same(&format!("the Rust's {}", pass.word()), verdict, judge::verdict(pass, &model))?;
+    }
+    Ok(())
+}
+
+/// The pass that a record is of: codes 20 to 40, 50 and 51, 60 to 62.
+fn pass_of(record: &Record) -> Pass {
+    match record.code {
+        0..50 => Pass::Resolve,
+        50..60 => Pass::Access,
+        _ => Pass::Linear,
+    }
+}
+
+fn limit_holds(limit: &Limit) -> Result<(), Mismatch> {
+    same("the refusal", limit.refusal, reference::refusal(&limit.image))
+}

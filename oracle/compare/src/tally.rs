@@ -1,0 +1,85 @@
+//! What the images showed: how often each code stood first in its pass and anywhere in a list,
+//! how often each pass accepted, how often each refusal was given. A comparison that never saw a
+//! rule at work has compared nothing, so too few of anything is a failure.
+
+use generate::CODES;
+use reference::{Judged, Pass};
+use std::fmt::Write;
+
+#[derive(Default)]
+pub struct Tally {
+    admitted: u64,
+    refused: u64,
+    refusals: [u64; 9],
+    accepted: [u64; 3],
+    first: Vec<u64>,
+    listed: Vec<u64>,
+    longest: usize,
+}
+
+impl Tally {
+    pub fn new() -> Tally {
+        Tally { first: vec![0; 64], listed: vec![0; 64], ..Tally::default() }
+    }
+
+    pub fn refused(&mut self, refusal: u8) {
+        self.refused += 1;
+        self.refusals[refusal as usize] += 1;
+    }
+
+    pub fn admitted(&mut self, judged: &Judged) {
+        self.admitted += 1;
+        self.longest = self.longest.max(judged.list().len());
+        for pass in Pass::ALL {
+            match judged.verdict(pass).code {
+                0 => self.accepted[pass as usize] += 1,
+                code => self.first[code as usize] += 1,
+            }
+            for record in judged.part(pass) {
+                self.listed[record.code as usize] += 1;
+            }
+        }
+    }
+
+    /// What came too seldom: a code as the first of its pass under once in 500 admitted images,
+    /// an acceptance under once in 10, a refusal under once in 200 refused images.
+    pub fn too_few(&self) -> Vec<String> {
+        let mut few = Vec::new();
+        let mut want = |what: String, count: u64, least: u64| {
+            if count < least.max(1) {
+                few.push(format!("{what}: {count}, and {least} are wanted"));
+            }
+        };
+        for code in CODES {
+            let count = self.first[code as usize];
+            want(format!("code {code} as the first of its pass"), count, self.admitted / 500);
+        }
+        for pass in Pass::ALL {
+            let count = self.accepted[pass as usize];
+            want(format!("{} accepts", pass.word()), count, self.admitted / 10);
+        }
+        for refusal in 1..=8 {
+            want(format!("refusal {refusal}"), self.refusals[refusal], self.refused / 200);
+        }
+        few
+    }
+
+    /// The table that is printed.
+    pub fn table(&self) -> String {
+        let mut out = String::new();
+        let mut line = |text: String| writeln!(out, "{text}").expect("a String takes any text");
+        line(format!("admitted {}, refused {}", self.admitted, self.refused));
+        for pass in Pass::ALL {
+            line(format!("{} accepts {}", pass.word(), self.accepted[pass as usize]));
+        }
+        line("code      first     listed".to_string());
+        for code in CODES {
+            let (first, listed) = (self.first[code as usize], self.listed[code as usize]);
+            line(format!("{code:>4} {first:>10} {listed:>10}"));
+        }
+        let refusals: Vec<String> = (1..=8).map(|r| format!("{r}: {}", self.refusals[r])).collect();
+        line(format!("refusals {}", refusals.join(", ")));
+        line(format!("longest list {}", self.longest));
+        out
+    }
+}

@@ -1,0 +1,65 @@
+//! What document 01 says by hand, what the generator reaches, and that a mismatch is made small.
+
+use compare::images::Range;
+use compare::judge;
+use compare::shrink::shrink;
+use generate::build::*;
+use quanta_typeck::conserve;
+use quanta_typeck::model::Model;
+use quanta_typeck::signature::lend;
+use reference::{Pass, kind};
+
+#[test]
+fn patterns_and_limits_hold() {
+    assert!(compare::patterns::run().is_ok());
+}
+
+/// The run fails as well when a code, an acceptance or a refusal comes too seldom.
+#[test]
+fn the_rust_agrees_and_every_code_is_reached() {
+    let range = Range { images: 6_000, seed: 2 };
+    if let Err(text) = compare::rust::run(range) {
+        panic!("{text}");
+    }
+}
+
+#[test]
+fn the_same_seed_gives_the_same_images() {
+    let image = compare::images::admitted_image(1, 5);
+    assert_eq!(image, compare::images::admitted_image(1, 5));
+    assert_ne!(image, compare::images::admitted_image(2, 5));
+}
+
+#[test]
+fn a_mismatch_is_made_small() {
+    let unused = |image: &[u8]| {
+        let judged = reference::judge(image);
+        judged.is_ok_and(|j| j.part(Pass::Linear).iter().any(|r| r.code == 61))
+    };
+    let mut images = (0..).map(|index| compare::images::admitted_image(4, index));
+    let image = images.find(|i| i.len() > 1_500 && unused(i)).expect("one of many");
+    let small = shrink(&image, &unused);
+    assert!(unused(&small));
+    // contract, Name, entry, Name, and a parameter or a Let that is not used
+    assert!(small.len() < 250, "{}", compare::dump(&small));
+}
+
+#[test]
+fn conserve_goes_by_the_lent_bytes() {
+    let minting = entry("e", vec![of_asset(kind::MINTS, "T")]);
+    let image = contract("c", vec![asset("T"), entry("f", vec![]), minting]).image();
+    let tree = reference::admit(&image).expect("admitted");
+    let contract = judge::contract(&tree);
+    let model = Model::build(&contract);
+    lend(&[0, 1]);
+    assert!(conserve::check(&model).is_ok());
+    lend(&[1, 0]);
+    assert!(conserve::check(&model).is_err());
+}
+
+#[test]
+fn the_samples_are_as_the_page_and_the_readme_say() {
+    assert_eq!(generate::patterns::p2().image().len(), 172);
+    let report = reference::report(&generate::ward().image());
+    assert_eq!(report.lines().nth(3), Some("list 3"));
+}

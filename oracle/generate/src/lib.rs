@@ -1,0 +1,64 @@
+//! Images to compare by, all from a seed: admitted ones (`admitted`), the limits of document 01 on
+//! both sides (`limits`), damaged ones (`damaged`), and contracts written by hand with what the
+//! page says of them (`patterns`).
+
+pub mod build;
+pub mod patterns;
+pub mod words;
+
+mod body;
+mod damage;
+mod expression;
+mod limits;
+mod maker;
+mod rng;
+mod samples;
+mod taste;
+mod wild;
+
+pub use damage::damaged;
+pub use limits::{Limit, largest, limits};
+pub use rng::Rng;
+pub use samples::ward;
+pub use taste::CODES;
+
+use maker::Maker;
+use pack::Node;
+use reference::image::{MAX_ANCESTORS, MAX_NAMES, MAX_NODES, MAX_TEXT};
+use wild::Wild;
+
+/// An image that is admitted.
+pub fn admitted(rng: &mut Rng) -> Vec<u8> {
+    tree(rng).image()
+}
+
+/// The tree of such an image.
+pub fn tree(rng: &mut Rng) -> Node {
+    let mut tree = if rng.one_in(8) { Wild::new(rng).contract() } else { Maker::new(rng).contract() };
+    fit(&mut tree);
+    let (from, to) = (rng.bits() as u32, rng.bits() as u32);
+    let mut next = 0u32;
+    tree.for_each_mut(&mut |n| {
+        (n.from, n.to) = (from.wrapping_mul(next), to.wrapping_add(next));
+        next += 1;
+    });
+    tree
+}
+
+/// Takes items away until the form can hold the rest.
+fn fit(tree: &mut Node) {
+    // an item's deepest node has one ancestor more than the item counts
+    tree.children.retain(|item| item.depth() < MAX_ANCESTORS);
+    while !fits(tree) {
+        tree.children.pop();
+    }
+}
+
+fn fits(tree: &Node) -> bool {
+    let size = tree.size();
+    if size <= MAX_NAMES && size * 16 <= MAX_TEXT {
+        return true;
+    }
+    let names = tree.names();
+    size <= MAX_NODES && names.len() <= MAX_NAMES && names.iter().map(|n| n.len()).sum::<usize>() <= MAX_TEXT
+}

@@ -1,0 +1,85 @@
+//! Contracts written by hand with the full list that document 01 gives them, by hand too: P1 to
+//! P14, each half (`page`); W, what the page calls tempting and wrong (`tempting`); S, the readings
+//! that DESIGN.md settles and that no verdict shows, since a verdict ends at the first offence
+//! (`settled`).
+//!
+//! A place is named by a mark on its node. A list is written as `25ba 61x`: the code, the mark of
+//! the place, and the mark of the related node where there is one.
+
+mod page;
+mod settled;
+mod tempting;
+
+pub use page::p2;
+
+use crate::build::*;
+use pack::{Node, name, node};
+use reference::{Record, kind};
+
+pub struct Pattern {
+    pub name: &'static str,
+    pub tree: Node,
+    list: &'static str,
+}
+
+impl Pattern {
+    /// The full list, with the marks turned into node numbers.
+    pub fn list(&self) -> Vec<Record> {
+        self.list.split_whitespace().map(|text| self.record(text)).collect()
+    }
+
+    fn record(&self, text: &str) -> Record {
+        let (code, marks) = text.split_at(2);
+        let place = |mark| self.tree.place(mark).unwrap_or(usize::MAX) as u16;
+        let mut places = marks.chars().map(place);
+        Record {
+            code: code.parse().unwrap_or(0),
+            place: places.next().unwrap_or(0),
+            related: places.next().unwrap_or(0),
+        }
+    }
+}
+
+/// All of them.
+pub fn patterns() -> Vec<Pattern> {
+    [page::all(), tempting::all(), settled::all()].into_iter().flatten().collect()
+}
+
+fn pattern(name: &'static str, items: Vec<Node>, list: &'static str) -> Pattern {
+    Pattern { name, tree: contract("c", items), list }
+}
+
+/// A pattern whose one item is an entry.
+fn of_entry(name: &'static str, parts: Vec<Node>, list: &'static str) -> Pattern {
+    pattern(name, vec![entry("e", parts)], list)
+}
+
+/// A pattern of a State block with fields of type `u8` and an entry.
+fn with_state(name: &'static str, fields: &[&str], parts: Vec<Node>, list: &'static str) -> Pattern {
+    pattern(name, vec![plain_state(fields), entry("e", parts)], list)
+}
+
+fn plain_state(fields: &[&str]) -> Node {
+    state(fields.iter().map(|f| field_decl(f, ty("u8"))).collect())
+}
+
+fn asset_type() -> Node {
+    ty("Q_Asset")
+}
+
+fn asset_of(inner: &str) -> Node {
+    ty_of("Q_Asset", vec![ty(inner)])
+}
+
+/// The parameter `x: Q_Asset` whose Name bears the mark `x`.
+fn asset_x() -> Node {
+    marked_param("x", 'x', asset_type())
+}
+
+fn marked_param(text: &str, mark: char, ty: Node) -> Node {
+    node(kind::PARAM, vec![name(text).marked(mark), ty])
+}
+
+fn marked_field(text: &str, mark: char, ty: Node) -> Node {
+    node(kind::FIELD_DECL, vec![name(text).marked(mark), ty])
+}

@@ -1,0 +1,144 @@
+//! Document 01, "Linear, entry by entry": codes 60, 61 and 62.
+
+use crate::kind::*;
+use crate::model::asset_inner;
+use crate::record::{Records, at, related};
+use crate::tree::Tree;
+
+/// A tracked asset: its name, the place of its record, and what counts as its use.
+struct Row<'a> {
+    name: &'a [u8],
+    place: usize,
+    marks: usize,
+    occurrences: Vec<usize>,
+}
+
+pub fn linear(tree: &Tree) -> Records {
+    let mut out = Records::new();
+    for entry in tree.entries() {
+        aliases(tree, entry, &mut out);
+        let mut rows = tracked(tree, entry);
+        burn_marks(tree, entry, &mut rows);
+        counted_occurrences(tree, entry, &mut rows);
+        uses(&rows, &mut out);
+    }
+    out
+}
+
+/// "Tracked, in order: `Q_Asset` parameters (place Name)"
+fn asset_parameters(tree: &Tree, entry: usize) -> Vec<usize> {
+    let is_asset = |p: &usize| tree.name_text(tree.type_of(*p)) == b"Q_Asset";
+    tree.params(entry).into_iter().filter(is_asset).collect()
+}
+
+/// "then Lets whose peeled value is a Call with callee Field `split` or Ident `mint` (place Let)"
+fn is_tracked_let(tree: &Tree, statement: usize) -> bool {
+    if tree.kind(statement) != LET {
+        return false;
+    }
+    let call = tree.peeled(tree.let_value(statement));
+    tree.kind(call) == CALL
+        && (tree.method(call).is_some_and(|(_, name)| name == b"split")
+            || tree.function(call) == Some(b"mint"))
+}
+
+fn tracked<'a>(tree: &Tree<'a>, entry: usize) -> Vec<Row<'a>> {
+    let params = asset_parameters(tree, entry).into_iter();
+    let statements = tree.statements(entry).into_iter();
+    let lets = statements.filter(|s| is_tracked_let(tree, *s));
+    let row = |declaration, place| Row {
+        name: tree.name_text(declaration),
+        place,
+        marks: 0,
+        occurrences: Vec::new(),
+    };
+    params.map(|p| row(p, tree.name(p))).chain(lets.map(|s| row(s, s))).collect()
+}
+
+/// 60: "a Let whose peeled value is an Ident naming an asset parameter or an earlier tracked Let".
+fn aliases(tree: &Tree, entry: usize, out: &mut Records) {
+    let params = asset_parameters(tree, entry);
+    let mut assets: Vec<&[u8]> = params.iter().map(|p| tree.name_text(*p)).collect();
+    for statement in tree.statements(entry) {
+        if tree.kind(statement) != LET {
+            continue;
+        }
+        let value = tree.peeled(tree.let_value(statement));
+        if tree.kind(value) == IDENT && assets.contains(&tree.text(value)) {
+            out.push(at(60, statement));
+        }
+        if is_tracked_let(tree, statement) {
+            assets.push(tree.name_text(statement));
+        }
+    }
+}
+
+/// "Burn mark: for each parameter of type `Q_Asset` whose first argument is a type named in a
+/// Burns clause, one on the first tracked row of its name."
+fn burn_marks(tree: &Tree, entry: usize, rows: &mut [Row]) {
+    let clauses = tree.children_of(entry, |k| k == BURNS);
+    let burned: Vec<&[u8]> = clauses.iter().map(|c| tree.name_text(*c)).collect();
+    for param in asset_parameters(tree, entry) {
+        let inner = asset_inner(tree, tree.type_of(param));
+        if inner.is_some_and(|name| burned.contains(&name)) {
+            let name = tree.name_text(param);
+            if let Some(row) = rows.iter_mut().find(|row| row.name == name) {
+                row.marks += 1;
+            }
+        }
+    }
+}
+
+/// "Counted occurrences, on the last row of the name"
+fn counted_occurrences(tree: &Tree, entry: usize, rows: &mut [Row]) {
+    let statements = tree.statements(entry);
+    let mut idents: Vec<usize> = Vec::new();
+    for statement in statements {
+        idents.extend(counted_value(tree, statement));
+        for call in tree.within(statement, CALL) {
+            idents.extend(counted_arguments(tree, call));
+        }
+    }
+    idents.sort();
+    for ident in idents {
+        let text = tree.text(ident);
+        if let Some(row) = rows.iter_mut().rev().find(|row| row.name == text) {
+            row.occurrences.push(ident);
+        }
+    }
+}
+
+/// "an Assign value that is a bare Ident"
+fn counted_value(tree: &Tree, statement: usize) -> Option<usize> {
+    if tree.kind(statement) != ASSIGN {
+        return None;
+    }
+    let value = tree.assign_value(statement);
+    (tree.kind(value) == IDENT).then_some(value)
+}
+
+/// "each argument that peels to an Ident, in every Call except those with callee Field `get`,
+/// `contains`, `has`. Calls nested in these still count."
+fn counted_arguments(tree: &Tree, call: usize) -> Vec<usize> {
+    let looking = |name: &[u8]| matches!(name, b"get" | b"contains" | b"has");
+    if tree.method(call).is_some_and(|(_, name)| looking(name)) {
+        return Vec::new();
+    }
+    let peeled = tree.arguments(call).map(|a| tree.peeled(a));
+    peeled.filter(|a| tree.kind(*a) == IDENT).collect()
+}
+
+/// "After all 60s, rows in order: 61 when marks plus occurrences are 0, 62 when over 1." Related
+/// is, for 62, "the second counted occurrence in preorder (its Ident), 0 if there is none".
+fn uses(rows: &[Row], out: &mut Records) {
+    for row in rows {
+        match row.marks + row.occurrences.len() {
+            0 => out.push(at(61, row.place)),
+            1 => {}
+            _ => {
+                let second = row.occurrences.get(1).copied().unwrap_or(0);
+                out.push(related(62, row.place, second));
+            }
+        }
+    }
+}
