@@ -4,3 +4,4 @@ pub mod Marking
 pub mod Turns
 pub mod Down
 pub mod Shapes
+pub mod Ranges

@@ -1,8 +1,8 @@
 -- What stands where in a lent part: the Name that a node begins with, the nodes of a Field and a Call, and what a walk by `next` leaves out.
-use Prim.Native.Nat.{ℕ, zero, suc, _+_, _*_, _-_, _<_, _≤_}
+use Prim.Native.Nat.{ℕ, zero, suc, _+_, _*_, _-_, _%_, _<_, _≤_}
 use mathlib.Core.Path.{_≡_, refl, ap, _∙_, sym, subst}
 use mathlib.Core.Bool.{Bool, true, false, not, true≢false}
-use mathlib.Core.List.{List, [], _∷_, List·Memᴰ}
+use mathlib.Core.List.{List, [], _∷_}
 use mathlib.Core.Logic.{_⊎_, inl, inr, ⊎-elim}
 use native.Mathlib.Omega.{arith}
 use borrow.Author.Tests.{eqb-true, eq-eqb, ne-eqb, ltb-true, ltb-false, lt-ltb}
@@ -12,11 +12,11 @@ use Rattle.image.specs.Pick.{pick, both, every}
 use Rattle.image.specs.Node.{kindOf, endOf}
 use Rattle.image.specs.Table.{partAt, rowOf, familyOf}
 use Rattle.image.specs.Admit.{nodesOf, nodeCount}
-use Rattle.image.proofs.Every.{every-at}
-use Rattle.image.proofs.Shape.{first-of, family-is, name-kind}
+use Rattle.image.proofs.Every.{every-at, both-left, both-right}
+use Rattle.image.proofs.Shape.{Child, first-of, family-is, name-kind, field-at}
 use Rattle.image.proofs.Given.{given}
 use Rattle.image.proofs.Nest.{nests}
-use Rattle.rules.specs.Sweep.{has}
+use Rattle.rules.specs.Sweep.{has, either}
 use Rattle.rules.specs.Tree.{tree}
 use Rattle.rules.specs.Vocabulary.{Below}
 use Rattle.rules.specs.All.{parts}
@@ -26,30 +26,57 @@ use Rattle.nodes.specs.Shown.{View, In, treeOf}
 use Rattle.nodes.specs.First.{nameFirst, NameFirst}
 use Rattle.nodes.proofs.Parts.{inside, there, past, formed, kind-is, end-is}
 
--- a row that begins with a Name
-name-test : ℕ → Bool
-name-test k = pick (has k nameFirst) (eqb (partAt (5 * k)) 68) true
+-- the rows of some kinds begin with one part
+begins : List ℕ → ℕ → ℕ → Bool
+begins ks a k = pick (has k ks) (eqb (partAt (5 * k)) a) true
 
-name-all : every name-test 46 ≡ true
-unfolding every name-test has partAt
-name-all = refl
+names-begin : every (begins nameFirst 68) 46 ≡ true
+unfolding every begins has partAt
+names-begin = refl
+
+-- Invariant, Limits, Denies, Guard, Assign, Stmt::Expr, Unary, Binary, Field, Call, Checked, Wrapping
+abbrev expressionFirst : List ℕ
+expressionFirst = 8 ∷ 19 ∷ 20 ∷ 24 ∷ 27 ∷ 28 ∷ 40 ∷ 41 ∷ 42 ∷ 43 ∷ 44 ∷ 45 ∷ []
+
+expressions-begin : every (begins expressionFirst 816) 46 ≡ true
+unfolding every begins has partAt
+expressions-begin = refl
 
 module _ {part : List ℕ} {b p : ℕ} (W : View part b) (i : In part b p) where
-  -- a node of such a kind: its Name follows
-  pub named-first : NameFirst (treeOf W .kind p) → In part b (p + 1) × (treeOf W .kind (p + 1) ≡ 23)
-  unfolding name-test
-  named-first k =
+  child : (ks : List ℕ) (a : ℕ) → every (begins ks a) 46 ≡ true → a % 4 ≡ 0 → treeOf W .kind p < 46 → has (treeOf W .kind p) ks ≡ true → Child (nodesOf (W .image)) a (p + 1) (treeOf W .end p)
+  unfolding begins
+  child ks a all m l h =
       let u = inside W i in
       let v = W .shown .high in
       let N = formed W .node p (omega arith) in
-      let t : pick (has (treeOf W .kind p) nameFirst) (eqb (partAt (5 * treeOf W .kind p)) 68) true ≡ true = every-at name-test 46 (treeOf W .kind p) name-all (k .0) in
-      let a = eqb-true _ _ (rw (k .1) at t) in
-      let r : rowOf (treeOf W .kind p) ≡ 5 * treeOf W .kind p = simp (lt-ltb (treeOf W .kind p) 46 (k .0)) in
-      let f = first-of (nodesOf (W .image)) p (5 * treeOf W .kind p) 68 r (N .children) (let l = k .0 in omega arith) (sym a) refl in
-      let g = f .0 .inside in
+      let t : pick (has (treeOf W .kind p) ks) (eqb (partAt (5 * treeOf W .kind p)) a) true ≡ true = every-at (begins ks a) 46 (treeOf W .kind p) all l in
+      let e = eqb-true _ _ (rw h at t) in
+      let r : rowOf (treeOf W .kind p) ≡ 5 * treeOf W .kind p = simp (lt-ltb (treeOf W .kind p) 46 l) in
+      first-of (nodesOf (W .image)) p (5 * treeOf W .kind p) a r (N .children) (omega arith) (sym e) m .0
+
+  next-in : p + 1 < treeOf W .end p → In part b (p + 1)
+  next-in g = let h = past W i .1 in let w = i .0 in there W (omega arith) (omega arith)
+
+  -- a node that begins with its Name
+  pub named-first : NameFirst (treeOf W .kind p) → In part b (p + 1) × (treeOf W .kind (p + 1) ≡ 23)
+  named-first k = let f = child nameFirst 68 names-begin refl (k .0) (k .1) in (next-in (f .inside), name-kind _ (family-is 68 _ 1 refl refl (f .taken)))
+
+  -- a node that begins with an expression
+  pub first-in : (k : ℕ) → treeOf W .kind p ≡ k → k < 46 → has k expressionFirst ≡ true → In part b (p + 1)
+  first-in k e l h = next-in (child expressionFirst 816 expressions-begin refl (omega arith) (ap (λ (x : ℕ). has x expressionFirst) e ∙ h) .inside)
+
+  -- the Name of a Field, past its base
+  pub field-name : treeOf W .kind p ≡ 42 → In part b (p + 1) × In part b (treeOf W .end (p + 1)) × (treeOf W .kind (treeOf W .end (p + 1)) ≡ 23)
+  field-name k =
+      let u = inside W i in
+      let v = W .shown .high in
+      let f = field-at (nodesOf (W .image)) p k (formed W .node p (omega arith) .children) in
+      let x = f .base .inside in
+      let y = f .base .past in
+      let z = f .name-node .inside in
       let h = past W i .1 in
       let w = i .0 in
-      (there W (omega arith) (omega arith), name-kind _ (family-is 68 _ 1 refl refl (f .0 .taken)))
+      (there W (omega arith) (omega arith), there W (omega arith) (omega arith), f .name-is)
 
   -- a node within p's range stands in the part too
   pub within : {q : ℕ} → p < q → q < treeOf W .end p → In part b q
@@ -94,9 +121,15 @@ next-is {part} {b} {a} {p} {r} W i l h e = go (has (treeOf W .kind p) parts) ref
     go false k d = let q : r ≡ p + 1 = rw k at d in record { on = omega arith; within-end = omega arith; leaves = λ j f g. absurd (omega arith) }
 
 -- kinds that are parts: none of them is left out either
-pub not-part : (k : ℕ) (ks : List ℕ) → ((j : ℕ) → List·Memᴰ j ks → List·Memᴰ j parts) → has k parts ≡ false → has k ks ≡ false
-not-part k ks f e = go (has k ks) refl
+unfoldable pub allIn : List ℕ → List ℕ → Bool
+allIn [] l = true
+allIn (j ∷ ks) l = both (has j l) (allIn ks l)
+
+pub not-part : (k : ℕ) (ks : List ℕ) → allIn ks parts ≡ true → has k parts ≡ false → has k ks ≡ false
+unfolding allIn has
+not-part k [] a e = refl
+not-part k (j ∷ ks) a e = go (eqb k j) refl (not-part k ks (both-right (has j parts) _ a) e)
   where
-    go : (x : Bool) → has k ks ≡ x → has k ks ≡ false
-    go false d = d
-    go true d = absurd (true≢false (sym (tells-has k parts .back (f k (tells-has k ks .so d))) ∙ e))
+    go : (x : Bool) → eqb k j ≡ x → has k ks ≡ false → either x (has k ks) ≡ false
+    go false d f = f
+    go true d f = absurd (true≢false (sym (both-left (has j parts) _ a) ∙ ap (λ (x : ℕ). has x parts) (sym (eqb-true k j d)) ∙ e))

@@ -7,9 +7,11 @@ ghost use Rattle.image.specs.Node.{kindOf, nameOf, endOf};
 ghost use Rattle.image.specs.Pick.{pick};
 ghost use Rattle.rules.specs.Sweep.{has};
 ghost use Rattle.rules.specs.All.{parts};
+ghost use Rattle.rules.specs.Tree.{statement};
 ghost use Rattle.rules.specs.Vocabulary.{down};
 ghost use Rattle.nodes.specs.Shown.{View, In, treeOf};
 ghost use Rattle.nodes.specs.Past.{takenOff};
+ghost use Rattle.nodes.specs.First.{Starts};
 
 pub fn kind(part: &[u8], b: usize, p: usize) -> usize
     requires { ⌜ In (now part) b p ⌝ }
@@ -115,4 +117,29 @@ pub fn next(part: &[u8], b: usize, p: usize) -> usize
         return end(part, b, p);
     }
     p + 1
+}
+
+pub fn is_statement(k: usize) -> bool
+    ensures { λ r. ⌜ r ≡ has k statement ⌝ }
+{
+    match k {
+        24..=28 => true,
+        _ => false,
+    }
+}
+
+// The first statement of the entry p; the entry's end if it has none.
+pub fn first_statement(part: &[u8], b: usize, p: usize) -> usize
+    requires { ⌜ View (now part) b × In (now part) b p ⌝ }
+    ensures { λ r. ⌜ ((W : View (now (part .entry)) b) → Starts W p r) ⌝ }
+{
+    let e = end(part, b, p);
+    let mut q = p + 1;
+    while q < e {
+        if is_statement(kind(part, b, q)) {
+            return q;
+        }
+        q += 1;
+    }
+    q
 }

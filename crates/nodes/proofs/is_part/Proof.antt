@@ -2,27 +2,15 @@ use mathlib.Core.Path.{_≡_, refl, _∙_, sym, ap}
 use mathlib.Core.Bool.{Bool, true, false}
 use Prim.Native.Nat.{ℕ, _≤_, _<_}
 use native.Mathlib.Omega.{arith}
-use borrow.Author.Tests.{ne-eqb, le-leb}
-use lib.Dec.{leb}
-use Rattle.image.specs.Pick.{pick, both, every}
-use Rattle.image.proofs.Every.{every-at}
+use borrow.Author.Tests.{ne-eqb}
+use Rattle.image.specs.Pick.{every}
+use Rattle.nodes.proofs.Ranges.{ranged, into}
 use Rattle.rules.specs.Sweep.{has}
 use Rattle.rules.specs.All.{parts}
 use Rattle.nodes.proofs.is_part.Statement.{statement}
 use Rattle.nodes.proofs.is_part.Tie as tie
 use Rattle.nodes.proofs.is_part.Reads as reads
 use Rattle.nodes.proofs.is_part.Lts as lts
-
--- from low to high all kinds are parts
-ranged : ℕ → ℕ → ℕ → Bool
-ranged low high k = pick (both (leb low k) (leb k high)) (has k parts) true
-
-module _ (low high : ℕ) (all : every (ranged low high) 46 ≡ true) where
-  into : (k : ℕ) → low ≤ k → k ≤ high → k < 46 → true ≡ has k parts
-  unfolding ranged
-  into k l h g =
-      let t : pick (both (leb low k) (leb k high)) (has k parts) true ≡ true = every-at (ranged low high) 46 k all g in
-      sym (rw (le-leb low k l, le-leb k high h) at t)
 
 out-of : (k : ℕ) → (k ≡ 8 → ⊥) → (k ≡ 10 → ⊥) → ((j : ℕ) → 14 ≤ j → j ≤ 21 → k ≡ j → ⊥) → ((j : ℕ) → 24 ≤ j → j ≤ 28 → k ≡ j → ⊥) → false ≡ has k parts
 unfolding has
@@ -41,12 +29,12 @@ returns-2 c = sym (ap (λ (x : ℕ). has x parts) (c .match .keys2))
 -- src/lib.rt:97:1
 returns-3 : tie.Need-returns-3
 unfolding ranged every has
-returns-3 c = let h = c .if2 .taken in into 14 21 refl _ (c .before .if1 .left) (omega arith) (omega arith)
+returns-3 c = let h = c .if2 .taken in into parts 14 21 refl _ (c .before .if1 .left) (omega arith) (omega arith)
 
 -- src/lib.rt:97:1
 returns-4 : tie.Need-returns-4
 unfolding ranged every has
-returns-4 c = let h = c .if4 .taken in into 24 28 refl _ (c .before .if3 .left) (omega arith) (omega arith)
+returns-4 c = let h = c .if4 .taken in into parts 24 28 refl _ (c .before .if3 .left) (omega arith) (omega arith)
 
 -- src/lib.rt:97:1
 returns-5 : tie.Need-returns-5

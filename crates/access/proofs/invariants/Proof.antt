@@ -1,0 +1,78 @@
+use borrow.Author.Needs.{needs}
+use native.Mathlib.Omega.{arith}
+use mathlib.Core.Path.{_≡_, _∙_, sym, ap, refl}
+use mathlib.Core.Bool.{Bool, true, false}
+use mathlib.Core.List.{List}
+use Prim.Native.Nat.{ℕ, _+_, _*_, _-_, _≤_, _<_}
+use lib.ListN.{length, getD}
+use Rattle.rules.specs.Sweep.{keep, has}
+use Rattle.nodes.specs.Shown.{View, In, treeOf}
+use Rattle.nodes.proofs.Parts.{past, kind-is, end-is, few, inside, there, ranged, tells}
+use Rattle.nodes.proofs.Shapes.{within}
+use Rattle.nodes.proofs.Down.{not-true, not-false}
+use Rattle.records.proofs.Sweep.{Sweeping, sweep-starts, sweep-on, sweep-again, sweep-done, laid-skip, laid-keep, laid-below, has-one, has-not}
+use Rattle.model.proofs.Said.{small}
+use Rattle.rules.specs.Tree.{ident, invariant}
+use Rattle.rules.specs.Vocabulary.{below}
+use Rattle.rules.specs.Access.{rule50}
+use Rattle.access.specs.Body.{State}
+use Rattle.access.proofs.Laws.{laid-50}
+use Rattle.access.proofs.invariants.Statement.{statement}
+use Rattle.access.proofs.invariants.Tie as tie
+use Rattle.access.proofs.invariants.Reads as reads
+use Rattle.access.proofs.invariants.Lts as lts
+use Rattle.access.proofs.invariant_turn.Reads as invariant-turn-reads
+use Rattle.nodes.proofs.end.Reads as end-reads
+
+abbrev Inv-loop : tie.InvT-loop
+Inv-loop part b state out₀ k e at₀ p₀ out at p = Sweeping (λ (T : State part b state) i. keep (has (treeOf (T .view) .kind i) invariant) (λ v. below (treeOf (T .view)) ident v (rule50 (treeOf (T .view)))) i) 1 e 2048 out₀ k out at p
+
+abbrev μ-loop : tie.MeasureT-loop
+μ-loop part b state out₀ k e at₀ p₀ out at p = e - p
+
+-- src/lib.rt:67:9
+end-requires : tie.Need-end-requires Inv-loop μ-loop
+end-requires c κs = c .before .before .before .pre .1
+
+-- src/lib.rt:70:5
+loop-holds : tie.Need-loop-holds Inv-loop μ-loop
+loop-holds c = let h = past (c .before .before .before .before .pre .0 .view) (c .before .before .before .before .pre .1) in let e = c .end .ensures ∙ end-is (c .before .before .before .before .pre .0 .view) (c .before .before .before .before .pre .1) in sweep-starts (omega arith)
+
+-- src/lib.rt:71:9
+invariant-turn-requires : tie.Need-invariant-turn-requires Inv-loop μ-loop
+invariant-turn-requires c κs = let W = c .before .before .before .before .before .before .before .pre .0 .view in let h = past W (c .before .before .before .before .before .before .before .pre .1) in let e = c .before .before .before .end .ensures ∙ end-is W (c .before .before .before .before .before .before .before .pre .1) in let i = c .before .before .loop .inv .low in let g = c .before .before .loop .inv .few in let u = few W in (c .before .before .before .before .before .before .before .pre .0, within W (c .before .before .before .before .before .before .before .pre .1) (omega arith) (omega arith), omega arith)
+
+-- src/lib.rt:72:9
+add-p : tie.Need-add-p Inv-loop μ-loop
+add-p c = search needs
+
+-- src/lib.rt:70:5
+loop-less : tie.Need-loop-less Inv-loop μ-loop
+loop-less c = search needs
+
+-- src/lib.rt:70:5
+loop-again : tie.Need-loop-again Inv-loop μ-loop
+loop-again c = let t = c .before .before .invariant-turn .ensures in sweep-again (c .before .before .before .before .before .loop .inv) (c .before .before .before .before .loop-test .taken) (t .0) (t .1) (t .2)
+
+-- src/lib.rt:62:1
+same-length : tie.Need-same-length Inv-loop μ-loop
+same-length c = c .before .loop .inv .long
+
+-- src/lib.rt:62:1
+returns : tie.Need-returns Inv-loop μ-loop
+returns c = let i = c .before .loop .inv in let W = c .before .before .before .before .before .before .pre .0 .view in let h = past W (c .before .before .before .before .before .before .pre .1) in let e = c .before .before .end .ensures ∙ end-is W (c .before .before .before .before .before .before .pre .1) in let f = i .few in let g = i .high in let u = few W in (λ T. laid-50 (treeOf (T .view)) (laid-below _ invariant _ 0 1 _ refl (c .before .before .end .ensures ∙ end-is (T .view) (c .before .before .before .before .before .before .pre .1)) (sweep-done i (c .loop-test .left) T)), omega arith, i .long)
+
+pub invariants-spec : {M : Type 1} → statement M
+invariants-spec =
+    tie.close
+    (tie.spec
+    Inv-loop
+    μ-loop
+    end-requires
+    loop-holds
+    invariant-turn-requires
+    add-p
+    loop-less
+    loop-again
+    same-length
+    returns)
