@@ -7,7 +7,7 @@ use native.Mathlib.Omega.{arith}
 use borrow.Author.Tests.{eq-eqb, ne-eqb, le-ltb, lt-ltb}
 use Rattle.image.specs.Pick.{both}
 use Rattle.rules.specs.Sweep.{keep, has, hasWord}
-use Rattle.rules.specs.Tree.{Tree, ident, invariant, assign, call, statement, peels-fields}
+use Rattle.rules.specs.Tree.{Tree, ident, invariant, entry, assign, call, statement, peels-fields}
 use Rattle.rules.specs.Vocabulary.{Rec, rec, only, below, down, atBottom, isField}
 use Rattle.rules.specs.Words.{writers}
 use Rattle.rules.specs.Model.{isState}
@@ -95,3 +95,16 @@ module _ (t : Tree) (e s : ℕ) {o : List ℕ} {n : ℕ} where
   pub assign-one : {o′ : List ℕ} {n′ : ℕ} → isWrite t e (s + 1) ≡ true → Laid o n (rec 51 s 0 ∷ []) o′ n′ → Laid o n (assignRule t e s) o′ n′
   unfolding assignRule
   assign-one h l = laid-yes (rec 51 s 0) h l
+
+-- 51 in a statement, in the entries
+pub laid-statement : (t : Tree) (e s : ℕ) {o o′ : List ℕ} {n n′ : ℕ} → Laid o n (keep (has (t .kind s) assign) (assignRule t e) s ++ below t call s (callRule t e)) o′ n′ → Laid o n (statementRules t e s) o′ n′
+unfolding statementRules
+laid-statement t e s l = l
+
+pub laid-51 : (t : Tree) {o o′ : List ℕ} {n n′ : ℕ} → Laid o n (below t entry (t .root) (λ e. below t statement e (statementRules t e))) o′ n′ → Laid o n (group51 t) o′ n′
+unfolding group51
+laid-51 t l = l
+
+pub laid-access : (t : Tree) {o o′ : List ℕ} {n n′ : ℕ} → Laid o n (group50 t ++ group51 t) o′ n′ → Laid o n (access t) o′ n′
+unfolding access
+laid-access t l = l

@@ -6,7 +6,7 @@ ghost use mathlib.Core.List.{List, [], _∷_};
 ghost use Prim.Native.Nat.{ℕ, _+_, _*_, _-_, _<_, _≤_, _^_};
 ghost use lib.ListN.{length};
 ghost use Rattle.image.specs.Node.{kindOf};
-ghost use Rattle.rules.specs.Sweep.{run, keep, has, also, same};
+ghost use Rattle.rules.specs.Sweep.{run, keep, has, also, either, same};
 ghost use Rattle.rules.specs.Tree.{tree, ident, invariant, entry, writes, name, statement, assign, call};
 ghost use Rattle.rules.specs.Vocabulary.{below, firstBelow, isField};
 ghost use Rattle.rules.specs.Words.{writers};
@@ -15,7 +15,7 @@ ghost use Rattle.records.specs.Records.{Laid};
 ghost use Rattle.nodes.specs.Shown.{View, In, treeOf};
 ghost use Rattle.nodes.specs.Marks.{Marks, marking};
 ghost use Rattle.model.specs.Found.{Header};
-ghost use Rattle.access.specs.Body.{clauseHas, writtenIn, isWriter, State, Words, Writing, Body};
+ghost use Rattle.access.specs.Body.{clauseHas, writtenIn, isWriter, State, Words, Writing, Body, Tables, entryWrites};
 
 // 50 at one node of an Invariant.
 fn ident_turn(part: &[u8], b: usize, p: usize, state: &[bool], out: &mut [u16], k: usize) -> usize
@@ -70,7 +70,7 @@ fn invariants(part: &[u8], b: usize, state: &[bool], out: &mut [u16], k: usize) 
     let mut p = 1;
     while p < e {
         at = invariant_turn(part, b, p, state, out, at);
-        p += 1;
+        p = nodes::next_item(part, b, p);
     }
     at
 }
@@ -238,7 +238,7 @@ fn statements(
     out: &mut [u16],
     k: usize,
 ) -> usize
-    requires { ⌜ Body (now part) b (now state) (now writer) (now written) × (k < 2 ^ 40) ⌝ }
+    requires { ⌜ Body (now part) b (now state) (now writer) (now written) × (0 < b) × (k < 2 ^ 40) ⌝ }
     ensures { λ r. ⌜ ((T : Body (now (part .entry)) b (now (state .entry)) (now (writer .entry)) (now (written .entry)))
         → Laid (now (out .entry)) k (run (λ i. keep (has (treeOf (T .writing .view) .kind i) statement) (statementRules (treeOf (T .writing .view)) (T .writing .entry)) i) b (T .writing .view .upto - b)) (now (out .exit)) r)
         × (r ≤ k + 2048 * 2048) × (length (now (out .exit)) ≡ length (now (out .entry))) ⌝ }
@@ -251,4 +251,100 @@ fn statements(
         p = nodes::next(part, b, p);
     }
     at
+}
+
+// 51 in one entry. The names that it writes are marked, and the marks taken off again.
+fn entry_turn(
+    part: &[u8],
+    b: usize,
+    p: usize,
+    state: &[bool],
+    writer: &[bool],
+    written: &mut [bool],
+    out: &mut [u16],
+    k: usize,
+) -> usize
+    requires { ⌜ Tables (now part) b (now state) (now writer) (now written) × In (now part) b p × (k < 2 ^ 40) ⌝ }
+    ensures { λ r. ⌜ ((T : Tables (now (part .entry)) b (now (state .entry)) (now (writer .entry)) (now (written .entry)))
+        → Laid (now (out .entry)) k (keep (has (treeOf (T .view) .kind p) entry) (entryWrites (treeOf (T .view))) p) (now (out .exit)) r
+        × Marks (T .view .image) (λ w. false) (now (written .exit)))
+        × (r ≤ k + 2048 * 2048) × (length (now (out .exit)) ≡ length (now (out .entry))) ⌝ }
+{
+    if nodes::kind(part, b, p) != 9 {
+        return k;
+    }
+    mark_written(part, b, p, true, written);
+    let f = nodes::first_statement(part, b, p);
+    let e = nodes::end(part, b, p);
+    let from = 16 * (f - b);
+    let to = 16 * (e - b);
+    let at = statements(&part[from..to], f, state, writer, written, out, k);
+    mark_written(part, b, p, false, written);
+    at
+}
+
+// 51: the entries in order.
+fn entries(
+    part: &[u8],
+    b: usize,
+    state: &[bool],
+    writer: &[bool],
+    written: &mut [bool],
+    out: &mut [u16],
+    k: usize,
+) -> usize
+    requires { ⌜ Tables (now part) b (now state) (now writer) (now written) × In (now part) b 0 × (k < 2 ^ 30) ⌝ }
+    ensures { λ r. ⌜ ((T : Tables (now (part .entry)) b (now (state .entry)) (now (writer .entry)) (now (written .entry)))
+        → Laid (now (out .entry)) k (group51 (treeOf (T .view))) (now (out .exit)) r)
+        × (length (now (out .exit)) ≡ length (now (out .entry))) ⌝ }
+{
+    let e = nodes::end(part, b, 0);
+    let mut at = k;
+    let mut p = 1;
+    while p < e {
+        at = entry_turn(part, b, p, state, writer, written, out, at);
+        p = nodes::next_item(part, b, p);
+    }
+    at
+}
+
+// The mark of the name w, if the image has one.
+fn mark_word(image: &[u8], n: usize, m: usize, w: &[u8], tab: &mut [bool])
+    requires { ⌜ Header (now image) n m × (length (now tab) ≡ 1024) ⌝ }
+    ensures { λ _. ⌜ (length (now (tab .exit)) ≡ 1024) × ((P : List ℕ → Bool) → Marks (now (image .entry)) P (now (tab .entry))
+        → Marks (now (image .entry)) (λ v. either (P v) (same v (now (w .entry)))) (now (tab .exit))) ⌝ }
+{
+    let x = model::number_of(image, n, m, w);
+    if 0 < x {
+        nodes::mark(tab, x, true);
+    }
+}
+
+// The marks of the words that write their base.
+fn mark_writers(image: &[u8], n: usize, m: usize, tab: &mut [bool])
+    requires { ⌜ Header (now image) n m × (length (now tab) ≡ 1024) ⌝ }
+    ensures { λ _. ⌜ (length (now (tab .exit)) ≡ 1024) × (Marks (now (image .entry)) (λ w. false) (now (tab .entry)) → Marks (now (image .entry)) isWriter (now (tab .exit))) ⌝ }
+{
+    mark_word(image, n, m, b"merge", tab);
+    mark_word(image, n, m, b"split", tab);
+    mark_word(image, n, m, b"credit", tab);
+    mark_word(image, n, m, b"debit", tab);
+    mark_word(image, n, m, b"insert", tab);
+    mark_word(image, n, m, b"remove", tab);
+    mark_word(image, n, m, b"set", tab);
+}
+
+// The records of the access pass of an admitted image with n nodes and m names, from the buffer's start.
+pub fn list(image: &[u8], n: usize, m: usize, out: &mut [u16]) -> usize
+    requires { ⌜ Header (now image) n m ⌝ }
+    ensures { λ r. ⌜ Laid (now (out .entry)) 0 (access (tree (now (image .entry)))) (now (out .exit)) r × (length (now (out .exit)) ≡ length (now (out .entry))) ⌝ }
+{
+    let e = 24 + 16 * n;
+    let mut state = [false; 1024];
+    model::mark_names(4, &image[24..e], 0, 0, true, &mut state);
+    let mut writer = [false; 1024];
+    mark_writers(image, n, m, &mut writer);
+    let mut written = [false; 1024];
+    let k = invariants(&image[24..e], 0, &state, out, 0);
+    entries(&image[24..e], 0, &state, &writer, &mut written, out, k)
 }

@@ -19,7 +19,7 @@ use Rattle.image.proofs.Nest.{nests}
 use Rattle.rules.specs.Sweep.{has, either}
 use Rattle.rules.specs.Tree.{tree}
 use Rattle.rules.specs.Vocabulary.{Below}
-use Rattle.rules.specs.All.{parts}
+use Rattle.rules.specs.All.{Flat, items, parts}
 use Rattle.rules.proofs.Reflect.{tells-has}
 use Rattle.rules.proofs.Admitted.{admitted}
 use Rattle.nodes.specs.Shown.{View, In, treeOf}
@@ -88,48 +88,77 @@ module _ {part : List ℕ} {b p : ℕ} (W : View part b) (i : In part b p) where
       let v = W .shown .high in
       (past W (within l h) .0, nests (nodesOf (W .image)) (nodeCount (W .image)) (formed W) p q (omega arith) l h)
 
--- what `next` leaves out holds no part
-part-none : {part : List ℕ} {b p : ℕ} (W : View part b) → In part b p → 0 < p → has (treeOf W .kind p) parts ≡ true → (j : ℕ) → p < j → j < treeOf W .end p → has (treeOf W .kind j) parts ≡ false
-part-none {part} {b} {p} W i z k j l h = go (has (treeOf W .kind j) parts) refl
-  where
-    go : (x : Bool) → has (treeOf W .kind j) parts ≡ x → has (treeOf W .kind j) parts ≡ false
-    go false e = e
-    go true e =
-        let u = inside W i in
-        let v = W .shown .high in
-        let r = formed W .root-end in
-        absurd
-        (admitted (W .image) (W .shown .admitted) .parts-flat p j
-        (record { after = z; inside = omega arith; kind = tells-has _ parts .so k })
-        (record { after = l; inside = h; kind = tells-has _ parts .so e }))
-
--- the walk by `next` from p, within the range of node a: it moves on, stays within, and leaves out no part
-pub record Next {part : List ℕ} {b : ℕ} (W : View part b) (a p r : ℕ) : Type 0 where
+-- a walk that goes past the whole of each node of kind ks, none of which holds another: from p, within the range of node a, it moves on, stays within, and leaves out none of them
+pub record Beyond (ks : List ℕ) {part : List ℕ} {b : ℕ} (W : View part b) (a p r : ℕ) : Type 0 where
   pub on : p < r
   pub within-end : r ≤ treeOf W .end a
-  pub leaves : (j : ℕ) → p < j → j < r → has (treeOf W .kind j) parts ≡ false
+  pub leaves : (j : ℕ) → p < j → j < r → has (treeOf W .kind j) ks ≡ false
+
+module _ (ks : List ℕ) {part : List ℕ} {b : ℕ} (W : View part b) (flat : Flat (treeOf W) ks) where
+  none-below : {p : ℕ} → In part b p → 0 < p → has (treeOf W .kind p) ks ≡ true → (j : ℕ) → p < j → j < treeOf W .end p → has (treeOf W .kind j) ks ≡ false
+  none-below {p} i z k j l h = go (has (treeOf W .kind j) ks) refl
+    where
+      go : (x : Bool) → has (treeOf W .kind j) ks ≡ x → has (treeOf W .kind j) ks ≡ false
+      go false e = e
+      go true e =
+          let u = inside W i in
+          let v = W .shown .high in
+          let r = formed W .root-end in
+          absurd
+          (flat p j
+          (record { after = z; inside = omega arith; kind = tells-has _ ks .so k })
+          (record { after = l; inside = h; kind = tells-has _ ks .so e }))
+
+  -- the same from a node of the part, whatever holds it
+  pub step-is : {p r : ℕ} → In part b p → 0 < p → r ≡ pick (has (kindOf part (p - b)) ks) (endOf part (p - b)) (p + 1)
+      → (p < r) × (r ≤ W .upto) × ((r ≡ treeOf W .end p) ⊎ (r ≡ p + 1)) × ((j : ℕ) → p < j → j < r → has (treeOf W .kind j) ks ≡ false)
+  step-is {p} {r} i z e =
+      go (has (treeOf W .kind p) ks) refl
+      (e ∙ ap (λ (k : ℕ). pick (has k ks) (endOf part (p - b)) (p + 1)) (kind-is W i) ∙ ap (λ (k : ℕ). pick (has (treeOf W .kind p) ks) k (p + 1)) (end-is W i))
+    where
+      go : (x : Bool) → has (treeOf W .kind p) ks ≡ x → r ≡ pick (has (treeOf W .kind p) ks) (treeOf W .end p) (p + 1)
+          → (p < r) × (r ≤ W .upto) × ((r ≡ treeOf W .end p) ⊎ (r ≡ p + 1)) × ((j : ℕ) → p < j → j < r → has (treeOf W .kind j) ks ≡ false)
+      go true k d =
+          let q : r ≡ treeOf W .end p = rw k at d in
+          let m = past W i in
+          (omega arith, omega arith, inl q, λ j f g. none-below i z k j f (omega arith))
+      go false k d = let q : r ≡ p + 1 = rw k at d in let m = past W i in (omega arith, omega arith, inr q, λ j f g. absurd (omega arith))
+
+  beyond-is : {a p r : ℕ} → In part b a → a < p → p < treeOf W .end a → r ≡ pick (has (kindOf part (p - b)) ks) (endOf part (p - b)) (p + 1) → Beyond ks W a p r
+  beyond-is {a} {p} {r} i l h e =
+      let t = step-is (within W i l h) (omega arith) e in
+      let m = ends-within W i l h in
+      record { on = t .0; within-end = ⊎-elim (λ (q : r ≡ treeOf W .end p). omega arith) (λ (q : r ≡ p + 1). omega arith) (t .2); leaves = t .3 }
+
+-- the walk by `next`, past the parts of items; the walk by `next_item`
+abbrev pub Next : {part : List ℕ} {b : ℕ} (W : View part b) (a p r : ℕ) → Type 0
+Next W a p r = Beyond parts W a p r
 
 pub next-is : {part : List ℕ} {b a p r : ℕ} (W : View part b) → In part b a → a < p → p < treeOf W .end a
     → r ≡ pick (has (kindOf part (p - b)) parts) (endOf part (p - b)) (p + 1) → Next W a p r
-next-is {part} {b} {a} {p} {r} W i l h e = go (has (treeOf W .kind p) parts) refl (e ∙ ap (λ (k : ℕ). pick (has k parts) (endOf part (p - b)) (p + 1)) (kind-is W (within W i l h)) ∙ ap (λ (k : ℕ). pick (has (treeOf W .kind p) parts) k (p + 1)) (end-is W (within W i l h)))
-  where
-    go : (x : Bool) → has (treeOf W .kind p) parts ≡ x → r ≡ pick (has (treeOf W .kind p) parts) (treeOf W .end p) (p + 1) → Next W a p r
-    go true k d =
-        let q : r ≡ treeOf W .end p = rw k at d in
-        let m = ends-within W i l h in
-        record { on = omega arith; within-end = omega arith; leaves = λ j f g. part-none W (within W i l h) (omega arith) k j f (omega arith) }
-    go false k d = let q : r ≡ p + 1 = rw k at d in record { on = omega arith; within-end = omega arith; leaves = λ j f g. absurd (omega arith) }
+next-is W i l h e = beyond-is parts W (admitted (W .image) (W .shown .admitted) .parts-flat) i l h e
 
--- kinds that are parts: none of them is left out either
+pub next-here : {part : List ℕ} {b p r : ℕ} (W : View part b) → In part b p → 0 < p → r ≡ pick (has (kindOf part (p - b)) parts) (endOf part (p - b)) (p + 1)
+    → (p < r) × (r ≤ W .upto) × ((j : ℕ) → p < j → j < r → has (treeOf W .kind j) parts ≡ false)
+next-here W i z e = let t = step-is parts W (admitted (W .image) (W .shown .admitted) .parts-flat) i z e in (t .0, t .1, t .3)
+
+pub next-item-is : {part : List ℕ} {b a p r : ℕ} (W : View part b) → In part b a → a < p → p < treeOf W .end a
+    → r ≡ pick (has (kindOf part (p - b)) items) (endOf part (p - b)) (p + 1) → Beyond items W a p r
+next-item-is W i l h e = beyond-is items W (admitted (W .image) (W .shown .admitted) .items-flat) i l h e
+
+-- kinds that are among these: none of them is left out either
 unfoldable pub allIn : List ℕ → List ℕ → Bool
 allIn [] l = true
 allIn (j ∷ ks) l = both (has j l) (allIn ks l)
 
-pub not-part : (k : ℕ) (ks : List ℕ) → allIn ks parts ≡ true → has k parts ≡ false → has k ks ≡ false
+pub not-in : (l : List ℕ) (k : ℕ) (ks : List ℕ) → allIn ks l ≡ true → has k l ≡ false → has k ks ≡ false
 unfolding allIn has
-not-part k [] a e = refl
-not-part k (j ∷ ks) a e = go (eqb k j) refl (not-part k ks (both-right (has j parts) _ a) e)
+not-in l k [] a e = refl
+not-in l k (j ∷ ks) a e = go (eqb k j) refl (not-in l k ks (both-right (has j l) _ a) e)
   where
     go : (x : Bool) → eqb k j ≡ x → has k ks ≡ false → either x (has k ks) ≡ false
     go false d f = f
-    go true d f = absurd (true≢false (sym (both-left (has j parts) _ a) ∙ ap (λ (x : ℕ). has x parts) (sym (eqb-true k j d)) ∙ e))
+    go true d f = absurd (true≢false (sym (both-left (has j l) _ a) ∙ ap (λ (x : ℕ). has x l) (sym (eqb-true k j d)) ∙ e))
+
+pub not-part : (k : ℕ) (ks : List ℕ) → allIn ks parts ≡ true → has k parts ≡ false → has k ks ≡ false
+not-part k ks a e = not-in parts k ks a e

@@ -6,7 +6,7 @@ ghost use lib.ListN.{length, getD, set};
 ghost use Rattle.image.specs.Node.{kindOf, nameOf, endOf};
 ghost use Rattle.image.specs.Pick.{pick};
 ghost use Rattle.rules.specs.Sweep.{has};
-ghost use Rattle.rules.specs.All.{parts};
+ghost use Rattle.rules.specs.All.{items, parts};
 ghost use Rattle.rules.specs.Tree.{statement};
 ghost use Rattle.rules.specs.Vocabulary.{down};
 ghost use Rattle.nodes.specs.Shown.{View, In, treeOf};
@@ -117,6 +117,28 @@ pub fn next(part: &[u8], b: usize, p: usize) -> usize
         return end(part, b, p);
     }
     p + 1
+}
+
+// The node after p; after the whole of p where p is a Genesis, an Invariant or an Entry.
+pub fn next_item(part: &[u8], b: usize, p: usize) -> usize
+    requires { ⌜ (p < 65536) × In (now part) b p ⌝ }
+    ensures { λ r. ⌜ r ≡ pick (has (kindOf (now (part .entry)) (p - b)) items) (endOf (now (part .entry)) (p - b)) (p + 1) ⌝ }
+{
+    if is_item(kind(part, b, p)) {
+        return end(part, b, p);
+    }
+    p + 1
+}
+
+fn is_item(k: usize) -> bool
+    ensures { λ r. ⌜ r ≡ has k items ⌝ }
+{
+    match k {
+        7 => true,
+        8 => true,
+        9 => true,
+        _ => false,
+    }
 }
 
 pub fn is_statement(k: usize) -> bool

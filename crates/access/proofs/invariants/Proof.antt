@@ -13,8 +13,11 @@ use Rattle.nodes.proofs.Down.{not-true, not-false}
 use Rattle.records.proofs.Sweep.{Sweeping, sweep-starts, sweep-on, sweep-again, sweep-done, laid-skip, laid-keep, laid-below, has-one, has-not}
 use Rattle.model.proofs.Said.{small}
 use Rattle.rules.specs.Tree.{ident, invariant}
+use Rattle.rules.specs.All.{items}
 use Rattle.rules.specs.Vocabulary.{below}
 use Rattle.rules.specs.Access.{rule50}
+use Rattle.nodes.proofs.Shapes.{Beyond, next-item-is, allIn, not-in}
+use Rattle.records.proofs.Sweep.{keep-none}
 use Rattle.access.specs.Body.{State}
 use Rattle.access.proofs.Laws.{laid-50}
 use Rattle.access.proofs.invariants.Statement.{statement}
@@ -23,6 +26,7 @@ use Rattle.access.proofs.invariants.Reads as reads
 use Rattle.access.proofs.invariants.Lts as lts
 use Rattle.access.proofs.invariant_turn.Reads as invariant-turn-reads
 use Rattle.nodes.proofs.end.Reads as end-reads
+use Rattle.nodes.proofs.next_item.Reads as next-item-reads
 
 abbrev Inv-loop : tie.InvT-loop
 Inv-loop part b state out₀ k e at₀ p₀ out at p = Sweeping (λ (T : State part b state) i. keep (has (treeOf (T .view) .kind i) invariant) (λ v. below (treeOf (T .view)) ident v (rule50 (treeOf (T .view)))) i) 1 e 2048 out₀ k out at p
@@ -30,35 +34,43 @@ Inv-loop part b state out₀ k e at₀ p₀ out at p = Sweeping (λ (T : State p
 abbrev μ-loop : tie.MeasureT-loop
 μ-loop part b state out₀ k e at₀ p₀ out at p = e - p
 
--- src/lib.rt:67:9
+-- helpers
+at-walk : (c : tie.In-loop Inv-loop μ-loop) (W : View (c .before .before .before .before .before .before .args .part .now) (c .before .before .before .before .before .before .args .b)) → In (c .before .before .before .before .before .before .args .part .now) (c .before .before .before .before .before .before .args .b) (c .before .loop .p)
+at-walk c W = let e = c .before .before .end .ensures ∙ end-is W (c .before .before .before .before .before .before .pre .1) in let l = c .before .loop .inv .low in within W (c .before .before .before .before .before .before .pre .1) (omega arith) (omega arith)
+
+moved : (c : tie.After-next-item Inv-loop μ-loop) (W : View (c .before .before .before .before .before .before .before .before .before .before .before .args .part .now) (c .before .before .before .before .before .before .before .before .before .before .before .args .b)) → Beyond items W 0 (c .before .before .before .before .before .before .loop .p) (c .next-item .result)
+moved c W = let e = c .before .before .before .before .before .before .before .end .ensures ∙ end-is W (c .before .before .before .before .before .before .before .before .before .before .before .pre .1) in let l = c .before .before .before .before .before .before .loop .inv .low in next-item-is W (c .before .before .before .before .before .before .before .before .before .before .before .pre .1) (omega arith) (omega arith) (c .next-item .ensures)
+
+-- src/lib.rt:68:9
 end-requires : tie.Need-end-requires Inv-loop μ-loop
 end-requires c κs = c .before .before .before .pre .1
 
--- src/lib.rt:70:5
+-- src/lib.rt:71:5
 loop-holds : tie.Need-loop-holds Inv-loop μ-loop
 loop-holds c = let h = past (c .before .before .before .before .pre .0 .view) (c .before .before .before .before .pre .1) in let e = c .end .ensures ∙ end-is (c .before .before .before .before .pre .0 .view) (c .before .before .before .before .pre .1) in sweep-starts (omega arith)
 
--- src/lib.rt:71:9
+-- src/lib.rt:72:9
 invariant-turn-requires : tie.Need-invariant-turn-requires Inv-loop μ-loop
 invariant-turn-requires c κs = let W = c .before .before .before .before .before .before .before .pre .0 .view in let h = past W (c .before .before .before .before .before .before .before .pre .1) in let e = c .before .before .before .end .ensures ∙ end-is W (c .before .before .before .before .before .before .before .pre .1) in let i = c .before .before .loop .inv .low in let g = c .before .before .loop .inv .few in let u = few W in (c .before .before .before .before .before .before .before .pre .0, within W (c .before .before .before .before .before .before .before .pre .1) (omega arith) (omega arith), omega arith)
 
--- src/lib.rt:72:9
-add-p : tie.Need-add-p Inv-loop μ-loop
-add-p c = search needs
+-- src/lib.rt:73:9
+next-item-requires : tie.Need-next-item-requires Inv-loop μ-loop
+next-item-requires c κs = let W = c .before .before .before .before .before .before .before .before .before .before .pre .0 .view in let i = at-walk (c .before .before .before .before) W in let h = small W i in (omega arith, i)
 
--- src/lib.rt:70:5
+-- src/lib.rt:71:5
 loop-less : tie.Need-loop-less Inv-loop μ-loop
-loop-less c = search needs
+loop-less c = let W = c .before .before .before .before .before .before .before .before .before .before .before .pre .0 .view in let n = moved c W in let h = n .on in let g = n .within-end in let e = c .before .before .before .before .before .before .before .end .ensures ∙ end-is W (c .before .before .before .before .before .before .before .before .before .before .before .pre .1) in omega arith
 
--- src/lib.rt:70:5
+-- src/lib.rt:71:5
 loop-again : tie.Need-loop-again Inv-loop μ-loop
-loop-again c = let t = c .before .before .invariant-turn .ensures in sweep-again (c .before .before .before .before .before .loop .inv) (c .before .before .before .before .loop-test .taken) (t .0) (t .1) (t .2)
+unfolding allIn has
+loop-again c = let t = c .before .before .before .invariant-turn .ensures in let W = c .before .before .before .before .before .before .before .before .before .before .before .pre .0 .view in let n = moved c W in let g = n .within-end in let e = c .before .before .before .before .before .before .before .end .ensures ∙ end-is W (c .before .before .before .before .before .before .before .before .before .before .before .pre .1) in sweep-on (c .before .before .before .before .before .before .loop .inv) (n .on) (omega arith) (λ T j a d. keep-none _ j (not-in items (treeOf (T .view) .kind j) invariant refl (moved c (T .view) .leaves j a d))) (t .0) (t .1) (t .2)
 
--- src/lib.rt:62:1
+-- src/lib.rt:63:1
 same-length : tie.Need-same-length Inv-loop μ-loop
 same-length c = c .before .loop .inv .long
 
--- src/lib.rt:62:1
+-- src/lib.rt:63:1
 returns : tie.Need-returns Inv-loop μ-loop
 returns c = let i = c .before .loop .inv in let W = c .before .before .before .before .before .before .pre .0 .view in let h = past W (c .before .before .before .before .before .before .pre .1) in let e = c .before .before .end .ensures ∙ end-is W (c .before .before .before .before .before .before .pre .1) in let f = i .few in let g = i .high in let u = few W in (λ T. laid-50 (treeOf (T .view)) (laid-below _ invariant _ 0 1 _ refl (c .before .before .end .ensures ∙ end-is (T .view) (c .before .before .before .before .before .before .pre .1)) (sweep-done i (c .loop-test .left) T)), omega arith, i .long)
 
@@ -71,7 +83,7 @@ invariants-spec =
     end-requires
     loop-holds
     invariant-turn-requires
-    add-p
+    next-item-requires
     loop-less
     loop-again
     same-length
