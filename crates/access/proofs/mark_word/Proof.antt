@@ -1,3 +1,8 @@
+use native.Mathlib.Omega.{arith}
+use mathlib.Core.Path.{_≡_, _∙_, sym, ap}
+use lib.ListN.{length, length-set}
+use Rattle.model.proofs.Heads.{bounds}
+use Rattle.access.proofs.Writers.{word-none, word-marks}
 use borrow.Author.Needs.{needs}
 use Rattle.access.proofs.mark_word.Statement.{statement}
 use Rattle.access.proofs.mark_word.Tie as tie
@@ -12,7 +17,7 @@ number-of-requires c κs = search needs
 
 -- src/lib.rt:319:9
 mark-requires : tie.Need-mark-requires
-mark-requires c κs = ?
+mark-requires c κs = let h = c .before .before .number-of .ensures .high in let f = bounds (c .before .before .before .before .before .before .pre .0) in let e = c .before .before .before .before .before .before .pre .0 .names in (c .before .if1 .taken, omega arith, c .before .before .before .before .before .before .pre .1)
 
 -- src/lib.rt:312:1
 same-length : tie.Need-same-length
@@ -20,11 +25,11 @@ same-length c = search needs
 
 -- src/lib.rt:312:1
 returns : tie.Need-returns
-returns c = ?
+returns c = (ap length (c .before .before .mark .ensures) ∙ simp length-set (c .before .before .before .before .before .before .before .before .before .pre .1), λ P M. rw (c .before .before .mark .ensures) (word-marks (c .before .before .before .before .before .before .before .before .before .pre .0 .admitted) (c .before .before .before .before .before .number-of .ensures) P M (c .before .before .before .before .if1 .taken)))
 
 -- src/lib.rt:312:1
 returns-2 : tie.Need-returns-2
-returns-2 c = ?
+returns-2 c = (c .before .before .before .before .before .pre .1, λ P M. word-none (c .before .before .before .before .before .pre .0 .admitted) (c .before .number-of .ensures) P M (let h = c .if1 .left in omega arith))
 
 pub mark-word-spec : {M : Type 1} → statement M
 mark-word-spec =

@@ -1,3 +1,6 @@
+use mathlib.Core.Path.{_≡_, _∙_, sym}
+use Rattle.access.proofs.Writers.{writers-of}
+use mathlib.Core.Bool.{false}
 use borrow.Author.Needs.{needs}
 use Rattle.access.proofs.mark_writers.Statement.{statement}
 use Rattle.access.proofs.mark_writers.Tie as tie
@@ -51,7 +54,7 @@ slice-aggregate-mark-word-6 c = search needs
 
 -- src/lib.rt:333:5
 mark-word-requires-6 : tie.Need-mark-word-requires-6
-mark-word-requires-6 c κs = ?
+mark-word-requires-6 c κs = (c .before .before .before .before .before .before .before .before .before .before .before .before .before .before .before .before .before .before .before .before .before .before .before .before .before .before .before .before .before .pre .0, c .before .before .before .before .mark-word5 .ensures .0)
 
 -- src/lib.rt:334:28
 slice-aggregate-mark-word-7 : tie.Need-slice-aggregate-mark-word-7
@@ -59,15 +62,15 @@ slice-aggregate-mark-word-7 c = search needs
 
 -- src/lib.rt:334:5
 mark-word-requires-7 : tie.Need-mark-word-requires-7
-mark-word-requires-7 c κs = ?
+mark-word-requires-7 c κs = (c .before .before .before .before .before .before .before .before .before .before .before .before .before .before .before .before .before .before .before .before .before .before .before .before .before .before .before .before .before .before .before .before .before .before .pre .0, c .before .before .before .before .mark-word6 .ensures .0)
 
 -- src/lib.rt:324:1
 same-length : tie.Need-same-length
-same-length c = ?
+same-length c = c .before .before .mark-word7 .ensures .0 ∙ sym (c .before .before .before .before .before .before .before .before .before .before .before .before .before .before .before .before .before .before .before .before .before .before .before .before .before .before .before .before .before .before .before .before .before .before .before .before .before .pre .1)
 
 -- src/lib.rt:324:1
 returns : tie.Need-returns
-returns c = ?
+returns c = (c .before .before .mark-word7 .ensures .0, λ M. writers-of (c .before .before .mark-word7 .ensures .1 _ (c .before .before .before .before .before .before .before .mark-word6 .ensures .1 _ (c .before .before .before .before .before .before .before .before .before .before .before .before .mark-word5 .ensures .1 _ (c .before .before .before .before .before .before .before .before .before .before .before .before .before .before .before .before .before .mark-word4 .ensures .1 _ (c .before .before .before .before .before .before .before .before .before .before .before .before .before .before .before .before .before .before .before .before .before .before .mark-word3 .ensures .1 _ (c .before .before .before .before .before .before .before .before .before .before .before .before .before .before .before .before .before .before .before .before .before .before .before .before .before .before .before .mark-word2 .ensures .1 _ (c .before .before .before .before .before .before .before .before .before .before .before .before .before .before .before .before .before .before .before .before .before .before .before .before .before .before .before .before .before .before .before .before .mark-word .ensures .1 (λ w. false) M))))))))
 
 pub mark-writers-spec : {M : Type 1} → statement M
 mark-writers-spec =
