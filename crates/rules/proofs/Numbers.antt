@@ -1,20 +1,20 @@
--- On an admitted image two names of equal bytes have one number: names ascend strictly.
+-- Names by bytes. On an admitted image two names of equal bytes have one number, since names ascend strictly; and the number of a word is found by its bytes.
 use Prim.Native.Nat.{ℕ, zero, suc, _+_, _-_, _<_, _≤_}
 use mathlib.Core.Path.{_≡_, refl, ap, _∙_, sym, subst}
 use mathlib.Core.Bool.{Bool, true, false, true≢false}
 use mathlib.Core.List.{List, [], _∷_}
-use mathlib.Core.Logic.{_⊎_, inl, inr, ⊎-elim}
-use native.Mathlib.Nat.{eq-or-lt-of-le}
 use native.Mathlib.Omega.{arith}
-use borrow.Author.Tests.{ltb-true, ltb-false, lt-ltb, eqb-true, eqb-false, eq-eqb, ne-eqb}
+use borrow.Author.Tests.{ltb-true, ltb-false, lt-ltb, leb-true, leb-false, eqb-true, eq-eqb, ne-eqb}
 use lib.Dec.{ltb, leb, eqb}
 use lib.ListN.{length}
-use Rattle.image.specs.Pick.{pick, both, every}
-use Rattle.image.specs.Text.{less, slice, offOf, textOf, nameAt, nameOk, namesOk, formOf}
+use Rattle.image.specs.Pick.{pick}
+use Rattle.image.specs.Text.{less, slice, offOf, textOf, nameAt, nameOk, formOf}
 use Rattle.image.specs.Admit.{refusal, nameCount, namesOf, textPart}
-use Rattle.image.proofs.Every.{both-left, both-right, every-at}
+use Rattle.image.proofs.Every.{both-right, every-at}
 use Rattle.image.proofs.Given.{given}
-use Rattle.rules.specs.All.{SameNumbers}
+use Rattle.rules.specs.Sweep.{first, same}
+use Rattle.rules.specs.Names.{nameText, SameNumbers, EqualNumbers, numberOf, Found, NotFound}
+use Rattle.rules.proofs.Reflect.{tells-same, first-from, first-is, first-at}
 
 pub never : (a : List ℕ) → less a a ≡ true → ⊥
 unfolding less
@@ -96,3 +96,54 @@ same-numbers s e i j a b q = go (ltb i j) refl (ltb j i) refl
     go true u y v = absurd (apart s e i j (ltb-true i j u) b q)
     go false u true v = absurd (apart s e j i (ltb-true j i v) a (sym q))
     go false u false v = let m = ltb-false i j u in let n = ltb-false j i v in omega arith
+
+pub equal-numbers : EqualNumbers
+equal-numbers s e x y a b = (ap (nameText s), same-numbers s e x y a b)
+
+-- The number of a word
+
+module _ (s w : List ℕ) where
+  -- the least number that has the bytes of w
+  abbrev least : ℕ
+  least = first (λ x. same (nameText s x) w) 1 (nameCount s)
+
+  least-is : least ≤ nameCount s → nameText s least ≡ w
+  least-is l = tells-same (nameText s least) w .so (first-is (λ x. same (nameText s x) w) 1 (nameCount s) (omega arith))
+
+  least-at : (x : ℕ) → 1 ≤ x → x ≤ nameCount s → nameText s x ≡ w → least ≤ x
+  least-at x a b e = first-at (λ x. same (nameText s x) w) 1 (nameCount s) x a (omega arith) (tells-same (nameText s x) w .back e)
+
+  -- the number is the least one, or 0
+  data Cases (n : ℕ) : Type 0 where
+    here : least ≤ nameCount s → 1 ≤ n → n ≡ least → Cases n
+    nowhere : nameCount s < least → n ≡ 0 → Cases n
+
+  cases : Cases (numberOf s w)
+  unfolding numberOf
+  cases = go (leb least (nameCount s)) refl
+    where
+      go : (b : Bool) → leb least (nameCount s) ≡ b → Cases (pick b least 0)
+      go true e = here (leb-true least (nameCount s) e) (first-from (λ x. same (nameText s x) w) 1 (nameCount s)) refl
+      go false e = nowhere (leb-false least (nameCount s) e) refl
+
+pub found : Found
+found s e w x a b = (λ q. so (cases s w) q, λ q. back (cases s w) q)
+  where
+    so : Cases s w (numberOf s w) → numberOf s w ≡ x → nameText s x ≡ w
+    so (here l g h) q = subst (λ (n : ℕ). nameText s n ≡ w) (sym h ∙ q) (least-is s w l)
+    so (nowhere l h) q = absurd (omega arith)
+
+    back : Cases s w (numberOf s w) → nameText s x ≡ w → numberOf s w ≡ x
+    back (here l g h) q = h ∙ same-numbers s e (least s w) x l b (least-is s w l ∙ sym q)
+    back (nowhere l h) q = let k = least-at s w x a b q in absurd (omega arith)
+
+pub not-found : NotFound
+not-found s w = (λ q x a b h. so (cases s w) q x a b h, λ n. back (cases s w) n)
+  where
+    so : Cases s w (numberOf s w) → numberOf s w ≡ 0 → (x : ℕ) → 1 ≤ x → x ≤ nameCount s → nameText s x ≡ w → ⊥
+    so (here l g h) q x a b r = omega arith
+    so (nowhere l h) q x a b r = let k = least-at s w x a b r in omega arith
+
+    back : Cases s w (numberOf s w) → ((x : ℕ) → 1 ≤ x → x ≤ nameCount s → nameText s x ≡ w → ⊥) → numberOf s w ≡ 0
+    back (here l g h) n = absurd (n (least s w) (omega arith) l (least-is s w l))
+    back (nowhere l h) n = h

@@ -1,0 +1,304 @@
+-- The answers of specs/Answers are what the facts allow, and nothing else is; and what a list, or a part of one, leaves in its buffer.
+use Prim.Native.Nat.{ℕ, zero, suc, _+_, _*_, _<_, _≤_}
+use mathlib.Core.Path.{_≡_, refl, ap, _∙_, sym}
+use mathlib.Core.Bool.{Bool, true, false, true≢false}
+use mathlib.Core.List.{List, [], _∷_, _++_}
+use mathlib.Core.Logic.{_⊎_, inl, inr, ⊎-elim}
+use native.Mathlib.Omega.{arith}
+use borrow.Author.Tests.{ltb-true, ltb-false, lt-ltb, le-ltb, eqb-true, eqb-false, eq-eqb, ne-eqb}
+use lib.Dec.{ltb, eqb}
+use lib.ListN.{length, getD, set, take, drop, length-set}
+use lib.Seq.{sets, length-sets, ext-getD, getD-set-same, getD-set-other}
+use Rattle.image.specs.Pick.{pick}
+use Rattle.image.specs.Admit.{refusal}
+use Rattle.rules.specs.Tree.{Tree, tree}
+use Rattle.rules.specs.Vocabulary.{Rec}
+use Rattle.rules.specs.Model.{StateName, isState, DeclaredAsset, isDeclaredAsset, KnownAsset, isKnownAsset}
+use Rattle.rules.specs.Resolve.{resolve}
+use Rattle.rules.specs.Access.{access}
+use Rattle.rules.specs.Linear.{linear}
+use Rattle.rules.specs.All.{offences, Verdict, verdict, FullList}
+use Rattle.rules.specs.Passes.{Pass, resolving, accessing, linearity, None, First, Judges}
+use Rattle.rules.specs.Answers.{Answer, imageRefused, refusedAt, firstOf, passAnswer, Reply, replyRefused, replied, ask, words, laid, Listing, listRefused, listed, listAnswer, listBuffer, partCount, partBuffer, onRest, InTurn}
+use Rattle.rules.specs.Allowed.{Refused, Admitted, PassAllowed, ReplyAllowed, ListAllowed}
+use Rattle.rules.proofs.Reflect.{Tells}
+use Rattle.rules.proofs.Model.{tells-isState, tells-isDeclaredAsset, tells-isKnownAsset}
+use Rattle.rules.proofs.Full.{full, only-full}
+use Rattle.rules.proofs.Passes.{judges-resolve, judges-access, judges-linear}
+
+-- an image is admitted or refused
+decide : (s : List ℕ) → Admitted s ⊎ Refused s
+decide s = go (eqb (refusal s) 0) refl
+  where
+    go : (b : Bool) → eqb (refusal s) 0 ≡ b → Admitted s ⊎ Refused s
+    go true e = inl (eqb-true (refusal s) 0 e)
+    go false e = inr (eqb-false (refusal s) 0 e)
+
+-- A pass
+
+pub pass-refused : (pass : Tree → List Rec) (s : List ℕ) → Refused s → passAnswer pass s ≡ imageRefused (refusal s)
+unfolding passAnswer
+pass-refused pass s n = ap (λ (b : Bool). pick b (firstOf s (pass (tree s))) (imageRefused (refusal s))) (ne-eqb (refusal s) 0 n)
+
+pub pass-admitted : (pass : Tree → List Rec) (s : List ℕ) → Admitted s → passAnswer pass s ≡ firstOf s (pass (tree s))
+unfolding passAnswer
+pass-admitted pass s e = ap (λ (b : Bool). pick b (firstOf s (pass (tree s))) (imageRefused (refusal s))) (eq-eqb (refusal s) 0 e)
+
+first-refuses : (s : List ℕ) (l : List Rec) (c q : ℕ) → (l ≡ [] → ⊥) → verdict l ≡ record { code = c; place = q } → firstOf s l ≡ refusedAt s c q
+first-refuses s [] c q n e = absurd (n refl)
+first-refuses s (r ∷ l) c q n e = ap (λ (v : Verdict). refusedAt s (v .code) (v .place)) e
+
+module _ (p : Pass) (s : List ℕ) (j : Admitted s → Judges (tree s) p) where
+  -- the pass's part is empty exactly when it has no offence
+  empty : (e : Admitted s) → None (tree s) p → p .part (tree s) ≡ []
+  empty e n = sym (j e .part) ∙ j e .accepts .0 (j e .accepts-none .1 n)
+
+  full-part : (e : Admitted s) (r : Rec) → First (tree s) p r → p .part (tree s) ≡ [] → ⊥
+  full-part e r f z = j e .accepts-none .0 (ap (λ (l : List Rec). verdict l .code) z) r (f .is) (f .of)
+
+  pub pass-allowed : PassAllowed p s (passAnswer (p .part) s)
+  pass-allowed = record {
+    refused = pass-refused (p .part) s;
+    accepts = λ e n. pass-admitted (p .part) s e ∙ ap (firstOf s) (empty e n);
+    refuses = λ e r f. pass-admitted (p .part) s e ∙ first-refuses s (p .part (tree s)) (r .code) (r .place) (full-part e r f) (j e .refuses r f);
+  }
+
+  -- two allowed answers are equal
+  pub pass-only : (a b : Answer) → PassAllowed p s a → PassAllowed p s b → a ≡ b
+  pass-only a b x y = ⊎-elim admits (λ n. x .refused n ∙ sym (y .refused n)) (decide s)
+    where
+      admits : Admitted s → a ≡ b
+      admits e = go (eqb (verdict (p .part (tree s)) .code) 0) refl
+        where
+          go : (t : Bool) → eqb (verdict (p .part (tree s)) .code) 0 ≡ t → a ≡ b
+          go true q = let n = j e .accepts-none .0 (eqb-true _ _ q) in x .accepts e n ∙ sym (y .accepts e n)
+          go false q = let f = j e .has-first (eqb-false _ _ q) in x .refuses e (f .0) (f .1) ∙ sym (y .refuses e (f .0) (f .1))
+
+module _ (s : List ℕ) where
+  pub resolve-allowed : PassAllowed resolving s (passAnswer resolve s)
+  resolve-allowed = pass-allowed resolving s (judges-resolve s)
+
+  pub access-allowed : PassAllowed accessing s (passAnswer access s)
+  access-allowed = pass-allowed accessing s (judges-access s)
+
+  pub linear-allowed : PassAllowed linearity s (passAnswer linear s)
+  linear-allowed = pass-allowed linearity s (judges-linear s)
+
+-- A question
+
+module _ (q : Tree → List ℕ → Bool) (Q : Tree → List ℕ → Type 0) (h : (t : Tree) (w : List ℕ) → Tells (q t w) (Q t w)) (s w : List ℕ) where
+  abbrev answers : Bool → Bool → Reply
+  answers b c = pick b (replied c) (replyRefused (refusal s))
+
+  pub ask-allowed : ReplyAllowed Q s w (ask q s w)
+  unfolding ask
+  ask-allowed = record {
+    refused = λ n. ap (λ (b : Bool). answers b (q (tree s) w)) (ne-eqb (refusal s) 0 n);
+    yes = λ e f. ap (λ (b : Bool). answers b (q (tree s) w)) (eq-eqb (refusal s) 0 e) ∙ ap replied (h (tree s) w .back f);
+    no = λ e f. ap (λ (b : Bool). answers b (q (tree s) w)) (eq-eqb (refusal s) 0 e) ∙ ap replied (not-so (q (tree s) w) refl f);
+  }
+    where
+      not-so : (b : Bool) → q (tree s) w ≡ b → (Q (tree s) w → ⊥) → q (tree s) w ≡ false
+      not-so true z f = absurd (f (h (tree s) w .so z))
+      not-so false z f = z
+
+  pub ask-only : (a b : Reply) → ReplyAllowed Q s w a → ReplyAllowed Q s w b → a ≡ b
+  ask-only a b x y = ⊎-elim (λ e. go e (q (tree s) w) refl) (λ n. x .refused n ∙ sym (y .refused n)) (decide s)
+    where
+      go : Admitted s → (c : Bool) → q (tree s) w ≡ c → a ≡ b
+      go e true z = let f = h (tree s) w .so z in x .yes e f ∙ sym (y .yes e f)
+      go e false z =
+          let f : Q (tree s) w → ⊥ = λ g. true≢false (sym (h (tree s) w .back g) ∙ z) in
+          x .no e f ∙ sym (y .no e f)
+
+pub state-allowed : (s w : List ℕ) → ReplyAllowed StateName s w (ask isState s w)
+state-allowed = ask-allowed isState StateName tells-isState
+
+pub declared-allowed : (s w : List ℕ) → ReplyAllowed DeclaredAsset s w (ask isDeclaredAsset s w)
+declared-allowed = ask-allowed isDeclaredAsset DeclaredAsset tells-isDeclaredAsset
+
+pub known-allowed : (s w : List ℕ) → ReplyAllowed KnownAsset s w (ask isKnownAsset s w)
+known-allowed = ask-allowed isKnownAsset KnownAsset tells-isKnownAsset
+
+-- Words and buffers
+
+pub length-words : (l : List Rec) → length (words l) ≡ 3 * length l
+length-words [] = refl
+length-words (r ∷ l) = let h : length (words l) ≡ 3 * length l = length-words l in omega arith
+
+pub words-append : (a b : List Rec) → words (a ++ b) ≡ words a ++ words b
+words-append [] b = refl
+words-append (r ∷ a) b = ap (λ (l : List ℕ). r .code ∷ r .place ∷ r .related ∷ l) (words-append a b)
+
+sets-append : (o : List ℕ) (i : ℕ) (v w : List ℕ) → sets o i (v ++ w) ≡ sets (sets o i v) (i + length v) w
+sets-append o i [] w = ap (λ (n : ℕ). sets o n w) (omega arith)
+sets-append o i (x ∷ v) w = sets-append (set o i x) (suc i) v w ∙ ap (λ (n : ℕ). sets (sets (set o i x) (suc i) v) n w) (omega arith)
+
+pub laid-append : (o : List ℕ) (k : ℕ) (a b : List Rec) → laid o k (a ++ b) ≡ laid (laid o k a) (k + length a) b
+laid-append o k a b =
+    ap (sets o (3 * k)) (words-append a b)
+    ∙ sets-append o (3 * k) (words a) (words b)
+    ∙ ap (λ (n : ℕ). sets (sets o (3 * k) (words a)) n (words b)) (omega (arith, length-words a))
+
+-- a store past the start of a buffer is a store into the rest of it
+sets-nil : (i : ℕ) (v : List ℕ) → sets [] i v ≡ []
+sets-nil i [] = refl
+sets-nil i (x ∷ v) = sets-nil (suc i) v
+
+sets-cons : (y : ℕ) (o : List ℕ) (i : ℕ) (v : List ℕ) → sets (y ∷ o) (suc i) v ≡ y ∷ sets o i v
+sets-cons y o i [] = refl
+sets-cons y o i (x ∷ v) = sets-cons y (set o i x) (suc i) v
+
+sets-rest : (o : List ℕ) (i : ℕ) (v : List ℕ) → sets o i v ≡ take i o ++ sets (drop i o) 0 v
+sets-rest o zero v = refl
+sets-rest [] (suc i) v = sets-nil (suc i) v ∙ sym (sets-nil 0 v)
+sets-rest (y ∷ o) (suc i) v = sets-cons y o i v ∙ ap (λ (l : List ℕ). y ∷ l) (sets-rest o i v)
+
+pub in-turn : InTurn
+unfolding offences
+in-turn s o =
+    laid-append o 0 (resolve t) (access t ++ linear t)
+    ∙ laid-append (laid o 0 (resolve t)) (0 + a) (access t) (linear t)
+    ∙ ap (λ (n : ℕ). laid (laid (laid o 0 (resolve t)) n (access t)) (n + b) (linear t)) (omega arith)
+    ∙ sets-rest (laid (laid o 0 (resolve t)) a (access t)) (3 * (a + b)) (words (linear t))
+    ∙ ap (λ (l : List ℕ). onRest (a + b) (partBuffer linear s) l) (sets-rest (laid o 0 (resolve t)) (3 * a) (words (access t)))
+  where
+    t : Tree
+    t = tree s
+
+    a : ℕ
+    a = partCount resolve s
+
+    b : ℕ
+    b = partCount access s
+
+-- a part's words: those that fit are written from the buffer's start, words past them keep their values, and so does the length
+sets-before : (o : List ℕ) (i : ℕ) (v : List ℕ) (j : ℕ) → j < i → getD (sets o i v) j 0 ≡ getD o j 0
+sets-before o i [] j l = refl
+sets-before o i (x ∷ v) j l = sets-before (set o i x) (suc i) v j (omega arith) ∙ getD-set-other o i j x 0 (λ e. omega arith)
+
+sets-past : (o : List ℕ) (i : ℕ) (v : List ℕ) (j : ℕ) → i + length v ≤ j → getD (sets o i v) j 0 ≡ getD o j 0
+sets-past o i [] j l = refl
+sets-past o i (x ∷ v) j l = sets-past (set o i x) (suc i) v j (omega arith) ∙ getD-set-other o i j x 0 (λ e. omega arith)
+
+sets-at : (o : List ℕ) (i : ℕ) (v : List ℕ) (k : ℕ) → k < length v → i + k < length o → getD (sets o i v) (i + k) 0 ≡ getD v k 0
+sets-at o i [] k l h = absurd (omega arith)
+sets-at o i (x ∷ v) zero l h =
+    let z : i + 0 ≡ i = omega arith in
+    ap (λ (n : ℕ). getD (sets (set o i x) (suc i) v) n 0) z ∙ sets-before (set o i x) (suc i) v i (omega arith) ∙ getD-set-same o i x 0 (omega arith)
+sets-at o i (x ∷ v) (suc k) l h =
+    let z : i + suc k ≡ suc i + k = omega arith in
+    ap (λ (n : ℕ). getD (sets (set o i x) (suc i) v) n 0) z ∙ sets-at (set o i x) (suc i) v k (omega arith) (let e = length-set o i x in omega arith)
+
+module _ (o : List ℕ) (l : List Rec) where
+  pub laid-long : length (laid o 0 l) ≡ length o
+  laid-long = length-sets o 0 (words l)
+
+  pub laid-written : (i : ℕ) → i < 3 * length l → i < length o → getD (laid o 0 l) i 0 ≡ getD (words l) i 0
+  laid-written i h g =
+      let z : i ≡ 0 + i = omega arith in
+      ap (λ (n : ℕ). getD (laid o 0 l) n 0) z ∙ sets-at o 0 (words l) i (let e = length-words l in omega arith) (omega arith)
+
+  pub laid-kept : (i : ℕ) → 3 * length l ≤ i → getD (laid o 0 l) i 0 ≡ getD o i 0
+  laid-kept i h = sets-past o 0 (words l) i (let e = length-words l in omega arith)
+
+-- The list
+
+module _ (s : List ℕ) where
+  abbrev count : ℕ
+  count = length (offences (tree s))
+
+  pub list-refused : (n : ℕ) → Refused s → listAnswer s n ≡ listRefused (refusal s)
+  unfolding listAnswer
+  list-refused n r = ap (λ (b : Bool). pick b (pick (ltb n (3 * count)) (listRefused 9) (listed count)) (listRefused (refusal s))) (ne-eqb (refusal s) 0 r)
+
+  admits : (n : ℕ) → Admitted s → listAnswer s n ≡ pick (ltb n (3 * count)) (listRefused 9) (listed count)
+  unfolding listAnswer
+  admits n e = ap (λ (b : Bool). pick b (pick (ltb n (3 * count)) (listRefused 9) (listed count)) (listRefused (refusal s))) (eq-eqb (refusal s) 0 e)
+
+  pub list-short : (n : ℕ) → Admitted s → n < 3 * count → listAnswer s n ≡ listRefused 9
+  list-short n e l = admits n e ∙ ap (λ (b : Bool). pick b (listRefused 9) (listed count)) (lt-ltb n (3 * count) l)
+
+  pub list-listed : (n : ℕ) → Admitted s → 3 * count ≤ n → listAnswer s n ≡ listed count
+  list-listed n e l = admits n e ∙ ap (λ (b : Bool). pick b (listRefused 9) (listed count)) (le-ltb n (3 * count) l)
+
+  module _ (o : List ℕ) where
+    buffer-is : (a : Listing) → listAnswer s (length o) ≡ a → listBuffer s o ≡ pick (eqb (a .number) 0) (laid o 0 (offences (tree s))) o
+    unfolding listBuffer
+    buffer-is a q = ap (λ (b : Listing). pick (eqb (b .number) 0) (laid o 0 (offences (tree s))) o) q
+
+    pub buffer-refused : Refused s → listBuffer s o ≡ o
+    buffer-refused r = buffer-is _ (list-refused (length o) r) ∙ ap (λ (b : Bool). pick b (laid o 0 (offences (tree s))) o) (ne-eqb (refusal s) 0 r)
+
+    pub buffer-short : Admitted s → length o < 3 * count → listBuffer s o ≡ o
+    buffer-short e l = buffer-is _ (list-short (length o) e l)
+
+    pub buffer-listed : Admitted s → 3 * count ≤ length o → listBuffer s o ≡ laid o 0 (offences (tree s))
+    buffer-listed e l = buffer-is _ (list-listed (length o) e l)
+
+    -- the length is unchanged, and words past the last record keep their values, whatever the answer
+    buffer-cases : (P : List ℕ → Type 0) → P o → P (laid o 0 (offences (tree s))) → P (listBuffer s o)
+    unfolding listBuffer
+    buffer-cases P x y = go (eqb (listAnswer s (length o) .number) 0)
+      where
+        go : (b : Bool) → P (pick b (laid o 0 (offences (tree s))) o)
+        go true = y
+        go false = x
+
+    pub buffer-long : length (listBuffer s o) ≡ length o
+    buffer-long = buffer-cases (λ b. length b ≡ length o) refl (laid-long o (offences (tree s)))
+
+  -- words past the last record keep their values
+  pub buffer-kept : (o : List ℕ) (i : ℕ) → 3 * listAnswer s (length o) .records ≤ i → getD (listBuffer s o) i 0 ≡ getD o i 0
+  buffer-kept o i h = ⊎-elim admitted (λ r. ap (λ (b : List ℕ). getD b i 0) (buffer-refused o r)) (decide s)
+    where
+      admitted : Admitted s → getD (listBuffer s o) i 0 ≡ getD o i 0
+      admitted e = go (ltb (length o) (3 * count)) refl
+        where
+          go : (b : Bool) → ltb (length o) (3 * count) ≡ b → getD (listBuffer s o) i 0 ≡ getD o i 0
+          go true q = ap (λ (b : List ℕ). getD b i 0) (buffer-short o e (ltb-true _ _ q))
+          go false q =
+              let l = ltb-false (length o) (3 * count) q in
+              let k : listAnswer s (length o) .records ≡ count = ap (λ (a : Listing). a .records) (list-listed (length o) e l) in
+              ap (λ (b : List ℕ). getD b i 0) (buffer-listed o e l) ∙ laid-kept o (offences (tree s)) i (omega arith)
+
+  pub list-allowed : (o : List ℕ) → ListAllowed s o (listAnswer s (length o)) (listBuffer s o)
+  list-allowed o = record {
+    long = buffer-long o;
+    refused = λ r. (list-refused (length o) r, buffer-refused o r);
+    short = λ e l f h. let n = same e l f in (list-short (length o) e (omega arith), buffer-short o e (omega arith));
+    full = λ e l f h. let n = same e l f in list-listed (length o) e (omega arith) ∙ ap listed n;
+    written = λ e l f h i g.
+        let n = same e l f in
+        ap (λ (b : List ℕ). getD b i 0) (buffer-listed o e (omega arith)) ∙ laid-written o (offences (tree s)) i (omega arith) (omega arith)
+        ∙ ap (λ (m : List Rec). getD (words m) i 0) (sym (only-full s e l f));
+    kept = λ e l f h i g. let n = same e l f in ap (λ (b : List ℕ). getD b i 0) (buffer-listed o e (omega arith)) ∙ laid-kept o (offences (tree s)) i (omega arith);
+  }
+    where
+      same : Admitted s → (l : List Rec) → FullList (tree s) l → count ≡ length l
+      same e l f = ap length (sym (only-full s e l f))
+
+  -- two allowed answers are equal, with what they leave in the buffer
+  pub list-only :
+      (o : List ℕ) (a b : Listing) (x y : List ℕ) → ListAllowed s o a x → ListAllowed s o b y → (a ≡ b) × (x ≡ y)
+  list-only o a b x y g h = ⊎-elim admitted (λ r. (g .refused r .0 ∙ sym (h .refused r .0), g .refused r .1 ∙ sym (h .refused r .1))) (decide s)
+    where
+      admitted : Admitted s → (a ≡ b) × (x ≡ y)
+      admitted e = go (ltb (length o) (3 * count)) refl
+        where
+          f : FullList (tree s) (offences (tree s))
+          f = full s e
+
+          go : (t : Bool) → ltb (length o) (3 * count) ≡ t → (a ≡ b) × (x ≡ y)
+          go true q =
+              let l = ltb-true (length o) (3 * count) q in
+              let u = g .short e _ f l in
+              let v = h .short e _ f l in
+              (u .0 ∙ sym (v .0), u .1 ∙ sym (v .1))
+          go false q =
+              let l = ltb-false (length o) (3 * count) q in
+              (g .full e _ f l ∙ sym (h .full e _ f l), ext-getD 0 x y (g .long ∙ sym (h .long)) (λ i k. side l i (ltb i (3 * count)) refl))
+            where
+              side : 3 * count ≤ length o → (i : ℕ) (t : Bool) → ltb i (3 * count) ≡ t → getD x i 0 ≡ getD y i 0
+              side l i true q = g .written e _ f l i (ltb-true _ _ q) ∙ sym (h .written e _ f l i (ltb-true _ _ q))
+              side l i false q = g .kept e _ f l i (ltb-false _ _ q) ∙ sym (h .kept e _ f l i (ltb-false _ _ q))

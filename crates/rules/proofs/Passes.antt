@@ -1,0 +1,198 @@
+-- Demand 3, pass by pass: each pass's records are those of the full list that have its codes; it accepts exactly when there is none, and else refuses with the first.
+use Prim.Native.Nat.{ℕ, _≤_}
+use mathlib.Core.Path.{_≡_, refl, ap, ap₂, _∙_, sym, subst}
+use mathlib.Core.Bool.{Bool, true, false}
+use mathlib.Core.List.{List, [], _∷_, _++_, append-nil, List·Memᴰ, List·Memᴰ·head, List·Memᴰ·tail, List·Memᴰ·not-nil, List·Memᴰ·cases-cons}
+use mathlib.Core.Logic.{inl, inr, ⊎-elim, _↔_}
+use native.Mathlib.Omega.{arith}
+use borrow.Author.Tests.{leb-true, le-leb}
+use lib.Dec.{leb}
+use Rattle.image.specs.Pick.{pick, both}
+use Rattle.image.specs.Admit.{refusal}
+use Rattle.rules.specs.Tree.{Tree, tree}
+use Rattle.rules.specs.Vocabulary.{Rec}
+use Rattle.rules.specs.Resolve.{resolve}
+use Rattle.rules.specs.Access.{access}
+use Rattle.rules.specs.Linear.{linear}
+use Rattle.rules.specs.All.{Offence, offences, Ordered, key, verdict}
+use Rattle.rules.specs.Passes.{Pass, resolving, accessing, linearity, Of, ofPass, None, First, Judges}
+use Rattle.rules.proofs.Reflect.{Tells, Finds, tells-both, finds-as}
+use Rattle.rules.proofs.Resolve.{Found24, Found35, finds-resolve, unknown-so}
+use Rattle.rules.proofs.Access.{finds-access}
+use Rattle.rules.proofs.Linear.{finds-linear}
+use Rattle.rules.proofs.Exact.{finds-offences}
+use Rattle.rules.proofs.Unique.{apart}
+use Rattle.rules.proofs.Full.{full}
+
+-- The records of a pass among those of a list
+
+module _ (p : Pass) where
+  tells-of : (r : Rec) → Tells (both (leb (p .least) (r .code)) (leb (r .code) (p .most))) (Of p r)
+  tells-of r = tells-both (record { so = leb-true _ _; back = le-leb _ _ }) (record { so = leb-true _ _; back = le-leb _ _ })
+
+  -- what ofPass does at a record
+  abbrev chosen : Bool → Rec → List Rec → List Rec
+  chosen b r l = pick b (r ∷ ofPass p l) (ofPass p l)
+
+  of-all : (l : List Rec) → ((r : Rec) → List·Memᴰ r l → Of p r) → ofPass p l ≡ l
+  unfolding ofPass
+  of-all [] h = refl
+  of-all (r ∷ l) h = ap (λ (b : Bool). chosen b r l) (tells-of r .back (h r (List·Memᴰ·head refl))) ∙ ap (λ (m : List Rec). r ∷ m) (of-all l (λ q i. h q (List·Memᴰ·tail i)))
+
+  of-none : (l : List Rec) → ((r : Rec) → List·Memᴰ r l → Of p r → ⊥) → ofPass p l ≡ []
+  unfolding ofPass
+  of-none [] h = refl
+  of-none (r ∷ l) h = go (both (leb (p .least) (r .code)) (leb (r .code) (p .most))) refl (of-none l (λ q i. h q (List·Memᴰ·tail i)))
+    where
+      go : (b : Bool) → both (leb (p .least) (r .code)) (leb (r .code) (p .most)) ≡ b → ofPass p l ≡ [] → chosen b r l ≡ []
+      go true e n = absurd (h r (List·Memᴰ·head refl) (tells-of r .so e))
+      go false e n = n
+
+  of-append : (l m : List Rec) → ofPass p (l ++ m) ≡ ofPass p l ++ ofPass p m
+  unfolding ofPass
+  of-append [] m = refl
+  of-append (r ∷ l) m = go (both (leb (p .least) (r .code)) (leb (r .code) (p .most))) (of-append l m)
+    where
+      go : (b : Bool) → ofPass p (l ++ m) ≡ ofPass p l ++ ofPass p m → chosen b r (l ++ m) ≡ chosen b r l ++ ofPass p m
+      go true e = ap (λ (n : List Rec). r ∷ n) e
+      go false e = e
+
+  finds-of : (l : List Rec) → Finds (ofPass p l) (λ r. List·Memᴰ r l × Of p r)
+  unfolding ofPass
+  finds-of [] = record { so = λ r m. absurd (List·Memᴰ·not-nil m); back = λ r h. absurd (List·Memᴰ·not-nil (h .0)) }
+  finds-of (q ∷ l) = go (both (leb (p .least) (q .code)) (leb (q .code) (p .most))) (tells-of q) (finds-of l)
+    where
+      go : (b : Bool) → Tells b (Of p q) → Finds (ofPass p l) (λ r. List·Memᴰ r l × Of p r) → Finds (chosen b q l) (λ r. List·Memᴰ r (q ∷ l) × Of p r)
+      go true t f = record {
+        so = λ r m. ⊎-elim (λ (e : r ≡ q). (List·Memᴰ·head e, subst (Of p) (sym e) (t .so refl))) (λ (i : List·Memᴰ r (ofPass p l)). let u = f .so r i in (List·Memᴰ·tail (u .0), u .1)) (List·Memᴰ·cases-cons m);
+        back = λ r h. ⊎-elim (λ (e : r ≡ q). List·Memᴰ·head e) (λ (i : List·Memᴰ r l). List·Memᴰ·tail (f .back r (i, h .1))) (List·Memᴰ·cases-cons (h .0));
+      }
+      go false t f = record {
+        so = λ r m. let u = f .so r m in (List·Memᴰ·tail (u .0), u .1);
+        back = λ r h. ⊎-elim (λ (e : r ≡ q). let z : false ≡ true = t .back (subst (Of p) e (h .1)) in absurd (mathlib.Core.Bool.true≢false (sym z))) (λ (i : List·Memᴰ r l). f .back r (i, h .1)) (List·Memᴰ·cases-cons (h .0));
+      }
+
+  ordered-of : (k : Rec → List ℕ) (l : List Rec) → Ordered k l → Ordered k (ofPass p l)
+  unfolding ofPass Ordered
+  ordered-of k [] h = tt
+  ordered-of k (r ∷ l) h = go (both (leb (p .least) (r .code)) (leb (r .code) (p .most))) (ordered-of k l (h .1))
+    where
+      go : (b : Bool) → Ordered k (ofPass p l) → Ordered k (chosen b r l)
+      go true o = (λ s m. h .0 s (finds-of l .so s m .0), o)
+      go false o = o
+
+-- The codes of each pass's records
+
+-- a record of code c, whatever else is known of it
+code : (p : Pass) (r : Rec) {c : ℕ} {P : Type 0} → both (leb (p .least) c) (leb c (p .most)) ≡ true → (r .code ≡ c) × P → Of p r
+code p r {c} e s =
+    let h : (p .least ≤ c) × (c ≤ p .most) = tells-both (record { so = leb-true _ _; back = le-leb _ _ }) (record { so = leb-true _ _; back = le-leb _ _ }) .so e in
+    let q = s .0 in
+    (omega arith, omega arith)
+
+module _ (t : Tree) (r : Rec) where
+  of-resolve : List·Memᴰ r (resolve t) → Of resolving r
+  of-resolve m =
+      ⊎-elim (c refl) (⊎-elim (c refl) (⊎-elim (c refl) (⊎-elim (c refl) (⊎-elim of24 (⊎-elim (⊎-elim (c refl) (c refl)) (⊎-elim (c refl)
+      (⊎-elim (⊎-elim (c refl) (λ s. c refl (unknown-so t r (inl s)))) of35)))))))
+      (finds-resolve t .so r m)
+    where
+      c : {n : ℕ} {P : Type 0} → both (leb 20 n) (leb n 40) ≡ true → (r .code ≡ n) × P → Of resolving r
+      c = code resolving r
+
+      of24 : Found24 t r → Of resolving r
+      of24 = ⊎-elim (c refl) (⊎-elim (c refl) (⊎-elim (c refl) (⊎-elim (c refl) (⊎-elim (c refl) (c refl)))))
+
+      of35 : Found35 t r → Of resolving r
+      of35 = ⊎-elim (c refl) (⊎-elim (c refl) (⊎-elim (c refl) (⊎-elim (c refl) (⊎-elim (c refl) (⊎-elim (c refl) (λ s. c refl (unknown-so t r (inr s))))))))
+
+  of-access : List·Memᴰ r (access t) → Of accessing r
+  of-access m = ⊎-elim (code accessing r refl) (code accessing r refl) (finds-access t .so r m)
+
+  of-linear : List·Memᴰ r (linear t) → Of linearity r
+  of-linear m = ⊎-elim (code linearity r refl) (⊎-elim (code linearity r refl) (code linearity r refl)) (finds-linear t .so r m)
+
+-- a list of three parts, of which one has the pass's records
+module _ (p : Pass) (a b c : List Rec) where
+  parts : ofPass p (a ++ (b ++ c)) ≡ ofPass p a ++ (ofPass p b ++ ofPass p c)
+  parts = of-append p a (b ++ c) ∙ ap (λ (l : List Rec). ofPass p a ++ l) (of-append p b c)
+
+module _ (t : Tree) where
+  part-resolve : ofPass resolving (offences t) ≡ resolve t
+  unfolding offences
+  part-resolve =
+      parts resolving (resolve t) (access t) (linear t)
+      ∙ ap₂ _++_ (of-all resolving (resolve t) (of-resolve t))
+      (ap₂ _++_ (of-none resolving (access t) (λ r m h. let u = of-access t r m in omega arith)) (of-none resolving (linear t) (λ r m h. let u = of-linear t r m in omega arith)))
+      ∙ append-nil (resolve t)
+
+  part-access : ofPass accessing (offences t) ≡ access t
+  unfolding offences
+  part-access =
+      parts accessing (resolve t) (access t) (linear t)
+      ∙ ap₂ _++_ (of-none accessing (resolve t) (λ r m h. let u = of-resolve t r m in omega arith))
+      (ap₂ _++_ (of-all accessing (access t) (of-access t)) (of-none accessing (linear t) (λ r m h. let u = of-linear t r m in omega arith)))
+      ∙ append-nil (access t)
+
+  part-linear : ofPass linearity (offences t) ≡ linear t
+  unfolding offences
+  part-linear =
+      parts linearity (resolve t) (access t) (linear t)
+      ∙ ap₂ _++_ (of-none linearity (resolve t) (λ r m h. let u = of-resolve t r m in omega arith))
+      (ap₂ _++_ (of-none linearity (access t) (λ r m h. let u = of-access t r m in omega arith)) (of-all linearity (linear t) (of-linear t)))
+
+-- What a pass does, of the records in its part
+
+module _ (t : Tree) (p : Pass) (some : 1 ≤ p .least) where
+  abbrev Mine : List Rec → Type 0
+  Mine l = Finds l (λ r. Offence t r × Of p r)
+
+  accepts : (l : List Rec) → Mine l → (verdict l .code ≡ 0) ↔ (l ≡ [])
+  accepts [] f = (λ e. refl, λ e. refl)
+  accepts (r ∷ l) f = (λ e. let o = f .so r (List·Memᴰ·head refl) .1 in absurd (omega arith), λ e. let z : _≡_ {A = ℕ} 0 1 = cc in absurd (omega arith))
+
+  accepts-none : (l : List Rec) → Mine l → (verdict l .code ≡ 0) ↔ None t p
+  accepts-none [] f = (λ e r x y. List·Memᴰ·not-nil (f .back r (x, y)), λ n. refl)
+  accepts-none (r ∷ l) f = let o = f .so r (List·Memᴰ·head refl) in (λ e. let h = o .1 in absurd (omega arith), λ n. absurd (n r (o .0) (o .1)))
+
+  has-first : (l : List Rec) → Mine l → Ordered (key t) l → (verdict l .code ≡ 0 → ⊥) → (r : Rec) × First t p r
+  unfolding Ordered
+  has-first [] f o n = absurd (n refl)
+  has-first (r ∷ l) f o n =
+      let h = f .so r (List·Memᴰ·head refl) in
+      (r, record { is = h .0; of = h .1; first = λ q x y. ⊎-elim inl (λ m. inr (o .0 q m)) (List·Memᴰ·cases-cons (f .back q (x, y))) })
+
+  refuses : (l : List Rec) → Mine l → Ordered (key t) l → (r : Rec) → First t p r → verdict l ≡ record { code = r .code; place = r .place }
+  unfolding Ordered
+  refuses [] f o r h = absurd (List·Memᴰ·not-nil (f .back r (h .is, h .of)))
+  refuses (q ∷ l) f o r h =
+      ⊎-elim says
+      (λ (m : List·Memᴰ r l).
+      let u = f .so q (List·Memᴰ·head refl) in
+      ⊎-elim (λ (e : q ≡ r). says (sym e)) (λ b. absurd (apart (key t q) (key t r) (o .0 r m) b)) (h .first q (u .0) (u .1)))
+      (List·Memᴰ·cases-cons (f .back r (h .is, h .of)))
+    where
+      says : r ≡ q → verdict (q ∷ l) ≡ record { code = r .code; place = r .place }
+      says e = ap (λ (x : Rec). verdict (x ∷ l)) (sym e)
+
+  pub judged : Ordered (key t) (offences t) → ofPass p (offences t) ≡ p .part t → Judges t p
+  judged o e =
+      let f : Mine (p .part t) = subst Mine e (finds-as (λ r h. (finds-offences t .so r (h .0), h .1)) (λ r h. (finds-offences t .back r (h .0), h .1)) (finds-of p (offences t))) in
+      let i : Ordered (key t) (p .part t) = subst (Ordered (key t)) e (ordered-of p (key t) (offences t) o) in
+      record {
+        part = e;
+        accepts = (λ z. e ∙ accepts (p .part t) f .0 z, λ z. accepts (p .part t) f .1 (sym e ∙ z));
+        accepts-none = accepts-none (p .part t) f;
+        has-first = has-first (p .part t) f i;
+        refuses = refuses (p .part t) f i;
+      }
+
+module _ (s : List ℕ) (e : refusal s ≡ 0) where
+  pub judges-resolve : Judges (tree s) resolving
+  judges-resolve = judged (tree s) resolving (omega arith) (full s e .ordered) (part-resolve (tree s))
+
+  pub judges-access : Judges (tree s) accessing
+  judges-access = judged (tree s) accessing (omega arith) (full s e .ordered) (part-access (tree s))
+
+  pub judges-linear : Judges (tree s) linearity
+  judges-linear = judged (tree s) linearity (omega arith) (full s e .ordered) (part-linear (tree s))

@@ -1,0 +1,123 @@
+-- The answers in document 01's numbers: of a pass, of a question about a name, of the full list and its buffer.
+-- Refusals 1 to 9 return their number with place, spans and record count 0 and change no lent memory. Acceptance is 0, place 0,
+-- spans 0.
+use Prim.Native.Nat.{ℕ, _+_, _*_}
+use mathlib.Core.Path.{_≡_}
+use mathlib.Core.Bool.{Bool, false}
+use mathlib.Core.List.{List, [], _∷_, _++_}
+use lib.Dec.{ltb, eqb}
+use lib.ListN.{length, take, drop}
+use lib.Seq.{sets}
+use Rattle.image.specs.Pick.{pick}
+use Rattle.image.specs.Admit.{refusal, word, nodesOf}
+use Rattle.rules.specs.Tree.{Tree, tree}
+use Rattle.rules.specs.Vocabulary.{Rec}
+use Rattle.rules.specs.Resolve.{resolve}
+use Rattle.rules.specs.Access.{access}
+use Rattle.rules.specs.Linear.{linear}
+use Rattle.rules.specs.All.{offences}
+
+-- A pass
+
+pub record Answer : Type 0 where
+  pub number : ℕ
+  pub place : ℕ
+  pub from : ℕ
+  pub to : ℕ
+
+-- the span words of node i of an image
+abbrev pub spanFrom : List ℕ → ℕ → ℕ
+spanFrom s i = word (nodesOf s) (16 * i + 8)
+
+abbrev pub spanTo : List ℕ → ℕ → ℕ
+spanTo s i = word (nodesOf s) (16 * i + 12)
+
+-- its cases: the image is refused; the pass accepts; it refuses with a code and a place
+abbrev pub imageRefused : ℕ → Answer
+imageRefused r = record { number = r; place = 0; from = 0; to = 0 }
+
+abbrev pub accepted : Answer
+accepted = record { number = 0; place = 0; from = 0; to = 0 }
+
+abbrev pub refusedAt : List ℕ → ℕ → ℕ → Answer
+refusedAt s c p = record { number = c; place = p; from = spanFrom s p; to = spanTo s p }
+
+-- by its first record, or acceptance
+abbrev pub firstOf : List ℕ → List Rec → Answer
+firstOf s [] = accepted
+firstOf s (r ∷ l) = refusedAt s (r .code) (r .place)
+
+-- where the image's refusal is r
+abbrev pub unlessRefused : ℕ → Answer → Answer
+unlessRefused r a = pick (eqb r 0) a (imageRefused r)
+
+unfoldable pub passAnswer : (Tree → List Rec) → List ℕ → Answer
+passAnswer pass s = unlessRefused (refusal s) (firstOf s (pass (tree s)))
+
+-- A question about a name: any bytes; yes, no, or refusal 1 to 8
+
+pub record Reply : Type 0 where
+  pub number : ℕ
+  pub yes : Bool
+
+abbrev pub replyRefused : ℕ → Reply
+replyRefused r = record { number = r; yes = false }
+
+abbrev pub replied : Bool → Reply
+replied b = record { number = 0; yes = b }
+
+unfoldable pub ask : (Tree → List ℕ → Bool) → List ℕ → List ℕ → Reply
+ask question s w = pick (eqb (refusal s) 0) (replied (question (tree s) w)) (replyRefused (refusal s))
+
+-- The list
+
+-- a record is three words: code, place, related
+abbrev pub words : List Rec → List ℕ
+words [] = []
+words (r ∷ l) = r .code ∷ r .place ∷ r .related ∷ words l
+
+-- the buffer o with the records l from the k-th record's place on; what does not fit is not written, all else keeps its value
+abbrev pub laid : List ℕ → ℕ → List Rec → List ℕ
+laid o k l = sets o (3 * k) (words l)
+
+pub record Listing : Type 0 where
+  pub number : ℕ
+  pub records : ℕ
+
+abbrev pub listRefused : ℕ → Listing
+listRefused r = record { number = r; records = 0 }
+
+abbrev pub listed : ℕ → Listing
+listed k = record { number = 0; records = k }
+
+-- 9: its buffer has fewer than 3 words per offence
+unfoldable pub listAnswer : List ℕ → ℕ → Listing
+listAnswer s size =
+    let k = length (offences (tree s)) in
+    pick (eqb (refusal s) 0)
+    (pick (ltb size (3 * k)) (listRefused 9) (listed k))
+    (listRefused (refusal s))
+
+-- the buffer afterwards: as it was on refusal, else with the records; words past the last record keep their values
+unfoldable pub listBuffer : List ℕ → List ℕ → List ℕ
+listBuffer s o = pick (eqb (listAnswer s (length o) .number) 0) (laid o 0 (offences (tree s))) o
+
+-- Each pass writes its records into the rest of the buffer from where the last one stopped: of an admitted image, how many it
+-- counts, and what it makes of that rest
+abbrev pub partCount : (Tree → List Rec) → List ℕ → ℕ
+partCount pass s = length (pass (tree s))
+
+abbrev pub partBuffer : (Tree → List Rec) → List ℕ → List ℕ → List ℕ
+partBuffer pass s o = laid o 0 (pass (tree s))
+
+-- the buffer o with what f makes of the rest of it after k records
+abbrev pub onRest : ℕ → (List ℕ → List ℕ) → List ℕ → List ℕ
+onRest k f o = take (3 * k) o ++ f (drop (3 * k) o)
+
+-- so the three parts, one after the other, are the whole list
+abbrev pub InTurn : Type 0
+InTurn =
+    (s o : List ℕ)
+    → laid o 0 (offences (tree s))
+    ≡ onRest (partCount resolve s + partCount access s) (partBuffer linear s)
+    (onRest (partCount resolve s) (partBuffer access s) (partBuffer resolve s o))
