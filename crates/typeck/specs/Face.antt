@@ -44,6 +44,11 @@ numbered (reply.Image r) = rules.replyRefused r
 numbered reply.Yes = rules.replied true
 numbered reply.No = rules.replied false
 
+-- yes as a number
+abbrev pub oneOf : Bool → ℕ
+oneOf true = 1
+oneOf false = 0
+
 -- a pass's part of the list: how many records, and the buffer afterwards
 abbrev pub listedOf : (Tree → List Rec) → List ℕ → Listed
 listedOf pass s = pick (eqb (refusal s) 0) (listed.Records (rules.partCount pass s)) (listed.Refused (refusal s))

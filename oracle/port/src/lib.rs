@@ -19,17 +19,17 @@ pub struct Answer {
 
 #[allow(unused)]
 mod exported {
-    pub type Refusal = unsafe extern "C" fn(*const u8, usize) -> u8;
-    pub type Pass = unsafe extern "C" fn(*const u8, usize, *mut u16, *mut u32, *mut u32) -> u8;
-    pub type Question = unsafe extern "C" fn(*const u8, usize, *const u8, usize, *mut u8) -> u8;
-    pub type List = unsafe extern "C" fn(*const u8, usize, *mut u16, usize, *mut u32) -> u8;
+    pub type Refusal = unsafe extern "C" fn(*const u8, usize) -> usize;
+    pub type Pass = unsafe extern "C" fn(*const u8, usize, *mut u16, *mut u32, *mut u32) -> usize;
+    pub type Question = unsafe extern "C" fn(*const u8, usize, *const u8, usize, *mut u8) -> usize;
+    pub type List = unsafe extern "C" fn(*const u8, usize, *mut u16, usize, *mut usize) -> usize;
 
     /// Declares functions of one shape, where their group is linked.
     macro_rules! export {
         ($feature:literal, [$($name:ident),*], $arguments:tt) => {$(
             #[cfg(feature = $feature)]
             unsafe extern "C" {
-                pub fn $name $arguments -> u8;
+                pub fn $name $arguments -> usize;
             }
         )*};
     }
@@ -53,12 +53,12 @@ mod exported {
     export!(
         "access_list",
         [isonkaypu_access_list],
-        (image: *const u8, image_len: usize, words: *mut u16, words_len: usize, count: *mut u32)
+        (image: *const u8, image_len: usize, words: *mut u16, words_len: usize, count: *mut usize)
     );
     export!(
         "linear_list",
         [isonkaypu_linear_list],
-        (image: *const u8, image_len: usize, words: *mut u16, words_len: usize, count: *mut u32)
+        (image: *const u8, image_len: usize, words: *mut u16, words_len: usize, count: *mut usize)
     );
 }
 
@@ -73,11 +73,16 @@ macro_rules! linked {
     }};
 }
 
+/// A result as a byte; one that is no byte is no answer of document 01's, and shows as 255.
+fn small(result: usize) -> u8 {
+    u8::try_from(result).unwrap_or(u8::MAX)
+}
+
 /// 0 where the image is admitted, else its refusal.
 pub fn refusal(image: &[u8]) -> Option<u8> {
     let function = linked!("refusal", isonkaypu_refusal as exported::Refusal)?;
     // SAFETY: pointer and length are those of a live slice.
-    Some(unsafe { function(image.as_ptr(), image.len()) })
+    Some(small(unsafe { function(image.as_ptr(), image.len()) }))
 }
 
 pub fn access(image: &[u8]) -> Option<Answer> {
@@ -94,7 +99,7 @@ fn pass(function: exported::Pass, image: &[u8]) -> Option<Answer> {
     let mut to = from;
     // SAFETY: pointer and length are those of a live slice; the rest are live and exclusive.
     let result = unsafe { function(image.as_ptr(), image.len(), &mut place, &mut from, &mut to) };
-    Some(Answer { result, place, from, to })
+    Some(Answer { result: small(result), place, from, to })
 }
 
 /// The result, 0 to 8, and the byte that says yes (1) or no (0).
@@ -118,7 +123,7 @@ fn question(function: exported::Question, image: &[u8], name: &[u8]) -> Option<(
     let mut yes = UNSET;
     // SAFETY: pointers and lengths are those of live slices; `yes` is live and exclusive.
     let result = unsafe { function(image.as_ptr(), image.len(), name.as_ptr(), name.len(), &mut yes) };
-    Some((result, yes))
+    Some((small(result), yes))
 }
 
 /// The result, 0 to 8, and the number of records; the words are written as far as they go.
@@ -132,10 +137,10 @@ pub fn linear_list(image: &[u8], words: &mut [u16]) -> Option<(u8, u32)> {
 }
 
 fn list(function: exported::List, image: &[u8], words: &mut [u16]) -> Option<(u8, u32)> {
-    let mut count = u32::from_ne_bytes([UNSET; 4]);
+    let mut count = usize::from_ne_bytes([UNSET; size_of::<usize>()]);
     // SAFETY: pointers and lengths are those of live slices, the words' one exclusive; `count` is
     // live and exclusive.
     let result =
         unsafe { function(image.as_ptr(), image.len(), words.as_mut_ptr(), words.len(), &mut count) };
-    Some((result, count))
+    Some((small(result), u32::try_from(count).unwrap_or(u32::MAX)))
 }
