@@ -35,7 +35,7 @@ unfolding every begins has partAt
 names-begin = refl
 
 -- Invariant, Limits, Denies, Guard, Assign, Stmt::Expr, Unary, Binary, Field, Call, Checked, Wrapping
-abbrev expressionFirst : List ℕ
+abbrev pub expressionFirst : List ℕ
 expressionFirst = 8 ∷ 19 ∷ 20 ∷ 24 ∷ 27 ∷ 28 ∷ 40 ∷ 41 ∷ 42 ∷ 43 ∷ 44 ∷ 45 ∷ []
 
 expressions-begin : every (begins expressionFirst 816) 46 ≡ true
@@ -62,8 +62,11 @@ module _ {part : List ℕ} {b p : ℕ} (W : View part b) (i : In part b p) where
   named-first k = let f = child nameFirst 68 names-begin refl (k .0) (k .1) in (next-in (f .inside), name-kind _ (family-is 68 _ 1 refl refl (f .taken)))
 
   -- a node that begins with an expression
+  pub first-inside : (k : ℕ) → treeOf W .kind p ≡ k → k < 46 → has k expressionFirst ≡ true → p + 1 < treeOf W .end p
+  first-inside k e l h = child expressionFirst 816 expressions-begin refl (omega arith) (ap (λ (x : ℕ). has x expressionFirst) e ∙ h) .inside
+
   pub first-in : (k : ℕ) → treeOf W .kind p ≡ k → k < 46 → has k expressionFirst ≡ true → In part b (p + 1)
-  first-in k e l h = next-in (child expressionFirst 816 expressions-begin refl (omega arith) (ap (λ (x : ℕ). has x expressionFirst) e ∙ h) .inside)
+  first-in k e l h = next-in (first-inside k e l h)
 
   -- the Name of a Field, past its base
   pub field-name : treeOf W .kind p ≡ 42 → In part b (p + 1) × In part b (treeOf W .end (p + 1)) × (treeOf W .kind (treeOf W .end (p + 1)) ≡ 23)

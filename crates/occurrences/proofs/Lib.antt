@@ -1,0 +1,4 @@
+pub mod Called
+pub mod Flags
+pub mod Children
+pub mod Laws
