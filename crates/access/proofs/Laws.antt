@@ -73,18 +73,9 @@ module _ (t : Tree) (e c : ℕ) {o : List ℕ} {n : ℕ} where
     unfolding callRule
     call-one h l = laid-yes (rec 51 c 0) (rw (w, h)) l
 
--- whether a callee is a Field of a word that writes
-module _ (t : Tree) (x : ℕ) where
-  pub field-other : (t .kind x ≡ 42 → ⊥) → isField t writers x ≡ false
-  unfolding isField
-  field-other n = simp (ne-eqb (t .kind x) 42 n)
-
-  pub field-so : t .kind x ≡ 42 → isField t writers x ≡ isWriter (t .text (t .end (x + 1)))
-  unfolding isField
-  field-so k = simp (eq-eqb (t .kind x) 42 k)
-
-  pub field-kind : isField t writers x ≡ true → t .kind x ≡ 42
-  field-kind e = tells-isField t writers x .so e .0
+-- a callee that is a Field of such a word is a Field
+pub field-kind : (t : Tree) (x : ℕ) → isField t writers x ≡ true → t .kind x ≡ 42
+field-kind t x e = tells-isField t writers x .so e .0
 
 -- 51 at an Assign
 module _ (t : Tree) (e s : ℕ) {o : List ℕ} {n : ℕ} where

@@ -27,11 +27,6 @@ pub record State (part : List ℕ) (b : ℕ) (state : List Bool) : Type 0 where
   pub view : View part b
   pub state-marks : Marks (view .image) (isState (treeOf view)) state
 
--- with the words that write their base
-pub record Words (part : List ℕ) (b : ℕ) (writer : List Bool) : Type 0 where
-  pub view : View part b
-  pub writer-marks : Marks (view .image) isWriter writer
-
 -- with the state names and the names that an entry writes
 pub record Writing (part : List ℕ) (b : ℕ) (state written : List Bool) : Type 0 where
   pub view : View part b

@@ -5,17 +5,15 @@ ghost use mathlib.Core.Bool.{Bool, true, false};
 ghost use mathlib.Core.List.{List, [], _∷_};
 ghost use Prim.Native.Nat.{ℕ, _+_, _*_, _-_, _<_, _≤_, _^_};
 ghost use lib.ListN.{length};
-ghost use Rattle.image.specs.Node.{kindOf};
 ghost use Rattle.rules.specs.Sweep.{run, keep, has, also, either, same};
 ghost use Rattle.rules.specs.Tree.{tree, ident, invariant, entry, writes, name, statement, assign, call};
-ghost use Rattle.rules.specs.Vocabulary.{below, firstBelow, isField};
-ghost use Rattle.rules.specs.Words.{writers};
+ghost use Rattle.rules.specs.Vocabulary.{below};
 ghost use Rattle.rules.specs.Access.{rule50, group50, isWrite, assignRule, callRule, statementRules, group51, access};
 ghost use Rattle.records.specs.Records.{Laid};
 ghost use Rattle.nodes.specs.Shown.{View, In, treeOf};
 ghost use Rattle.nodes.specs.Marks.{Marks, marking};
 ghost use Rattle.model.specs.Found.{Header};
-ghost use Rattle.access.specs.Body.{clauseHas, writtenIn, isWriter, State, Words, Writing, Body, Tables, entryWrites};
+ghost use Rattle.access.specs.Body.{clauseHas, writtenIn, isWriter, State, Writing, Body, Tables, entryWrites};
 
 // 50 at one node of an Invariant.
 fn ident_turn(part: &[u8], b: usize, p: usize, state: &[bool], out: &mut [u16], k: usize) -> usize
@@ -159,18 +157,6 @@ fn assign_turn(
     records::emit(out, k, 51, p as u16, 0)
 }
 
-// Whether the Call p has a callee that is a Field of a word that writes its base.
-fn writes_base(part: &[u8], b: usize, p: usize, writer: &[bool]) -> bool
-    requires { ⌜ Words (now part) b (now writer) × In (now part) b p × (kindOf (now part) (p - b) ≡ 43) ⌝ }
-    ensures { λ r. ⌜ ((T : Words (now (part .entry)) b (now (writer .entry))) → r ≡ isField (treeOf (T .view)) writers (p + 1)) ⌝ }
-{
-    if nodes::kind(part, b, p + 1) != 42 {
-        return false;
-    }
-    let f = nodes::end(part, b, p + 2);
-    nodes::marked(writer, nodes::name(part, b, f))
-}
-
 // 51 at a Call.
 fn call_turn(
     part: &[u8],
@@ -190,7 +176,7 @@ fn call_turn(
     if nodes::kind(part, b, p) != 43 {
         return k;
     }
-    if !writes_base(part, b, p, writer) {
+    if !model::calls_field(part, b, p, writer) {
         return k;
     }
     if !is_write(part, b, p + 2, state, written) {

@@ -2,3 +2,4 @@ pub mod Search
 pub mod Heads
 pub mod Said
 pub mod Questions
+pub mod Called

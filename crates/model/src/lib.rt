@@ -9,13 +9,14 @@ ghost use Rattle.image.specs.Text.{less, textOf};
 ghost use Rattle.image.specs.Admit.{refusal, nodeCount, nameCount};
 ghost use Rattle.rules.specs.Sweep.{also, has, same};
 ghost use Rattle.rules.specs.Tree.{tree, type};
-ghost use Rattle.rules.specs.Vocabulary.{named, someBelow, declares};
+ghost use Rattle.rules.specs.Vocabulary.{named, someBelow, declares, isField};
 ghost use Rattle.rules.specs.Model.{isState, isDeclaredAsset, isKnownAsset, inner};
 ghost use Rattle.nodes.specs.Shown.{View, In, treeOf};
 ghost use Rattle.nodes.specs.Marks.{Marks, marking};
 ghost use Rattle.nodes.specs.First.{NameFirst};
 ghost use Rattle.rules.specs.Words.{Q-Asset};
 ghost use Rattle.model.specs.Inner.{InnerIs, Assets};
+ghost use Rattle.model.specs.Called.{Words};
 ghost use Rattle.model.specs.Found.{Names, Parted, Found, Header, Numbered};
 
 // Whether two byte strings are equal: names are equal only when their bytes are.
@@ -210,4 +211,16 @@ pub fn is_known_asset(image: &[u8], n: usize, m: usize, w: &[u8]) -> bool
     mark_names(2, &image[24..e], 0, 0, true, &mut tab);
     mark_inner(q, &image[24..e], 0, 0, &mut tab);
     nodes::marked(&tab, x)
+}
+
+// Whether the callee of the Call c is a Field of a word that the table marks.
+pub fn calls_field(part: &[u8], b: usize, c: usize, table: &[bool]) -> bool
+    requires { ⌜ Words (now part) b (now table) × In (now part) b c × (kindOf (now part) (c - b) ≡ 43) ⌝ }
+    ensures { λ r. ⌜ ((T : Words (now (part .entry)) b (now (table .entry))) → r ≡ isField (treeOf (T .view)) (T .words) (c + 1)) ⌝ }
+{
+    if nodes::kind(part, b, c + 1) != 42 {
+        return false;
+    }
+    let f = nodes::end(part, b, c + 2);
+    nodes::marked(table, nodes::name(part, b, f))
 }

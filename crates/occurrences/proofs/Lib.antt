@@ -1,4 +1,3 @@
-pub mod Called
 pub mod Flags
 pub mod Children
 pub mod Laws

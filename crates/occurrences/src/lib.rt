@@ -13,20 +13,8 @@ ghost use Rattle.rules.specs.Vocabulary.{isField};
 ghost use Rattle.rules.specs.Linear.{isCounted};
 ghost use Rattle.nodes.specs.Shown.{View, In, treeOf};
 ghost use Rattle.occurrences.specs.Counting.{Counting};
-ghost use Rattle.occurrences.specs.Called.{Words};
+ghost use Rattle.model.specs.Called.{Words};
 ghost use Rattle.occurrences.specs.Flags.{Flagged, isValue, peelsTo, isTaken, isConsumed, countsIn};
-
-// Whether the callee of the Call c is a Field of a word that the table marks.
-pub fn calls_field(part: &[u8], b: usize, c: usize, table: &[bool]) -> bool
-    requires { ⌜ Words (now part) b (now table) × In (now part) b c × (kindOf (now part) (c - b) ≡ 43) ⌝ }
-    ensures { λ r. ⌜ ((T : Words (now (part .entry)) b (now (table .entry))) → r ≡ isField (treeOf (T .view)) (T .words) (c + 1)) ⌝ }
-{
-    if nodes::kind(part, b, c + 1) != 42 {
-        return false;
-    }
-    let f = nodes::end(part, b, c + 2);
-    nodes::marked(table, nodes::name(part, b, f))
-}
 
 // The flag of the node that the argument a peels to.
 fn argument_turn(part: &[u8], b: usize, a: usize, flags: &mut [bool])
@@ -78,7 +66,7 @@ fn call_turn(part: &[u8], b: usize, p: usize, reader: &[bool], flags: &mut [bool
     if nodes::kind(part, b, p) != 43 {
         return;
     }
-    if calls_field(part, b, p, reader) {
+    if model::calls_field(part, b, p, reader) {
         return;
     }
     arguments(part, b, p, flags);

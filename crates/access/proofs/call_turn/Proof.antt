@@ -14,7 +14,8 @@ use Rattle.model.proofs.Said.{small}
 use Rattle.rules.specs.Access.{callRule}
 use Rattle.rules.specs.Words.{writers}
 use Rattle.rules.specs.Vocabulary.{isField}
-use Rattle.access.specs.Body.{Body, Words}
+use Rattle.access.specs.Body.{Body}
+use Rattle.model.specs.Called.{Words}
 use Rattle.nodes.proofs.Shapes.{first-in, field-name}
 use Rattle.access.proofs.Laws.{call-other, call-declared, call-one, field-kind}
 use borrow.Author.Needs.{needs}
@@ -23,19 +24,19 @@ use Rattle.access.proofs.call_turn.Tie as tie
 use Rattle.access.proofs.call_turn.Reads as reads
 use Rattle.access.proofs.call_turn.Lts as lts
 use Rattle.access.proofs.is_write.Reads as is-write-reads
-use Rattle.access.proofs.writes_base.Reads as writes-base-reads
+use Rattle.model.proofs.calls_field.Reads as calls-field-reads
 use Rattle.nodes.proofs.kind.Reads as kind-reads
 use Rattle.records.proofs.emit.Reads as emit-reads
 
 -- helpers
 abbrev words : {part : List ℕ} {b : ℕ} {state writer written : List Bool} → Body part b state writer written → Words part b writer
-words T = record { view = T .writing .view; writer-marks = T .writer-marks }
+words T = record { view = T .writing .view; words = writers; marks = T .writer-marks }
 
 is-call : (c : tie.Else1) (W : View (c .before .before .before .before .before .before .before .args .part .now) (c .before .before .before .before .before .before .before .args .b)) → treeOf W .kind (c .before .before .before .before .before .before .before .args .p) ≡ 43
 is-call c W = sym (kind-is W (c .before .before .before .before .before .before .before .pre .1)) ∙ sym (c .before .kind .ensures) ∙ c .if1 .left
 
 is-field : (c : tie.Else2) (T : Body (c .before .before .before .before .before .before .before .before .before .args .part .now) (c .before .before .before .before .before .before .before .before .before .args .b) (c .before .before .before .before .before .before .before .before .before .args .state .now) (c .before .before .before .before .before .before .before .before .before .args .writer .now) (c .before .before .before .before .before .before .before .before .before .args .written .now)) → isField (treeOf (T .writing .view)) writers (c .before .before .before .before .before .before .before .before .before .args .p + 1) ≡ true
-is-field c T = sym (c .before .writes-base .ensures (words T)) ∙ not-false _ (c .if2 .left)
+is-field c T = sym (c .before .calls-field .ensures (words T)) ∙ not-false _ (c .if2 .left)
 
 -- the base of the Field stands in the part
 base : (c : tie.Else2) (T : Body (c .before .before .before .before .before .before .before .before .before .args .part .now) (c .before .before .before .before .before .before .before .before .before .args .b) (c .before .before .before .before .before .before .before .before .before .args .state .now) (c .before .before .before .before .before .before .before .before .before .args .writer .now) (c .before .before .before .before .before .before .before .before .before .args .written .now)) → In (c .before .before .before .before .before .before .before .before .before .args .part .now) (c .before .before .before .before .before .before .before .before .before .args .b) (c .before .before .before .before .before .before .before .before .before .args .p + 2)
@@ -54,12 +55,12 @@ returns : tie.Need-returns
 returns c = (λ T. laid-skip _ _ (has-not _ 43 (λ e. c .if1 .taken (c .before .kind .ensures ∙ kind-is (T .writing .view) (c .before .before .before .before .before .before .before .pre .1) ∙ e))), search needs, search needs)
 
 -- src/lib.rt:193:9
-writes-base-requires : tie.Need-writes-base-requires
-writes-base-requires c κs = (words (c .before .before .before .before .before .before .before .pre .0), c .before .before .before .before .before .before .before .pre .1, sym (c .before .kind .ensures) ∙ c .if1 .left)
+calls-field-requires : tie.Need-calls-field-requires
+calls-field-requires c κs = (words (c .before .before .before .before .before .before .before .pre .0), c .before .before .before .before .before .before .before .pre .1, sym (c .before .kind .ensures) ∙ c .if1 .left)
 
 -- src/lib.rt:194:9
 returns-2 : tie.Need-returns-2
-returns-2 c = (λ T. laid-keep _ _ (has-one _ 43 (is-call (c .before .before) (T .writing .view))) (call-other (treeOf (T .writing .view)) _ _ (sym (c .before .writes-base .ensures (words T)) ∙ not-true _ (c .if2 .taken))), search needs, search needs)
+returns-2 c = (λ T. laid-keep _ _ (has-one _ 43 (is-call (c .before .before) (T .writing .view))) (call-other (treeOf (T .writing .view)) _ _ (sym (c .before .calls-field .ensures (words T)) ∙ not-true _ (c .if2 .taken))), search needs, search needs)
 
 -- src/lib.rt:196:27
 add-is-write : tie.Need-add-is-write
@@ -95,7 +96,7 @@ call-turn-spec =
     (tie.spec
     kind-requires
     returns
-    writes-base-requires
+    calls-field-requires
     returns-2
     add-is-write
     is-write-requires

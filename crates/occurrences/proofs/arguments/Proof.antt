@@ -13,7 +13,7 @@ use Rattle.nodes.proofs.Parts.{kind-is, end-is, past, few}
 use Rattle.nodes.proofs.Shapes.{within, ends-within}
 use Rattle.model.proofs.Said.{small}
 use Rattle.occurrences.specs.Flags.{peelsTo}
-use Rattle.occurrences.proofs.Called.{callee-in}
+use Rattle.model.proofs.Called.{callee-in}
 use Rattle.occurrences.proofs.Flags.{Flagging, flagging-starts, flagging-on, flagging-done, flagged-as, flagged-keep}
 use Rattle.occurrences.proofs.Children.{Reached, is-child, no-child, reached-on, reached-first, flagged-arguments}
 use Rattle.occurrences.proofs.arguments.Statement.{statement}

@@ -14,7 +14,7 @@ use Rattle.nodes.proofs.Parts.{few, there}
 use Rattle.nodes.proofs.Shapes.{next-here, allIn, not-part}
 use Rattle.model.proofs.Said.{small}
 use Rattle.occurrences.specs.Counting.{Counting}
-use Rattle.occurrences.specs.Called.{Words}
+use Rattle.model.specs.Called.{Words}
 use Rattle.occurrences.specs.Flags.{countsIn}
 use Rattle.occurrences.proofs.Flags.{Flagging, flagging-starts, flagging-on, flagging-done, flagged-as}
 use Rattle.occurrences.proofs.Laws.{counted-is}

@@ -10,7 +10,7 @@ use Rattle.nodes.proofs.Parts.{past, kind-is, end-is}
 use Rattle.nodes.proofs.Shapes.{within}
 use Rattle.nodes.proofs.Down.{not-true, not-false}
 use Rattle.model.proofs.Said.{small}
-use Rattle.occurrences.specs.Called.{Words}
+use Rattle.model.specs.Called.{Words}
 use Rattle.occurrences.specs.Flags.{isConsumed, countsIn}
 use Rattle.occurrences.proofs.Laws.{flagged-statement}
 use Rattle.occurrences.proofs.Flags.{Flagging, flagging-starts, flagging-again, flagging-done, flagged-skip, flagged-keep, flagged-below}

@@ -9,10 +9,10 @@ use Rattle.rules.specs.Sweep.{hasWord}
 use Rattle.nodes.specs.Shown.{View, In, treeOf}
 use Rattle.nodes.proofs.Parts.{kind-is, end-is, ranged, tells}
 use Rattle.nodes.proofs.Shapes.{field-name}
 use Rattle.model.proofs.Said.{small}
-use Rattle.occurrences.proofs.Called.{callee-in, field-other, field-so}
-use Rattle.occurrences.proofs.calls_field.Statement.{statement}
-use Rattle.occurrences.proofs.calls_field.Tie as tie
+use Rattle.model.proofs.Called.{callee-in, field-other, field-so}
+use Rattle.model.proofs.calls_field.Statement.{statement}
+use Rattle.model.proofs.calls_field.Tie as tie
 
 -- the callee, its base and its Name stand in the part
 callee : (c : tie.Start) (W : View (c .args .part .now) (c .args .b)) → In (c .args .part .now) (c .args .b) (c .args .c + 1)
