@@ -45,7 +45,12 @@ fn give(v: Verdict, place: &mut u16, from: &mut u32, to: &mut u32) -> usize
 
 // The verdict of the access pass: 0 accepted, 1 to 8 the image's refusal, else the code.
 #[no_mangle]
-pub extern "C" fn isonkaypu_access(image: &[u8], place: &mut u16, from: &mut u32, to: &mut u32) -> usize
+pub extern "C" fn isonkaypu_access(
+    image: &[u8],
+    place: &mut u16,
+    from: &mut u32,
+    to: &mut u32,
+) -> usize
     ensures { λ r. ⌜ (r ≡ passAnswer access (now (image .entry)) .number) × (now (place .exit) ≡ passAnswer access (now (image .entry)) .place)
         × (now (from .exit) ≡ passAnswer access (now (image .entry)) .from) × (now (to .exit) ≡ passAnswer access (now (image .entry)) .to) ⌝ }
 {

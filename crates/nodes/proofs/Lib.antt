@@ -5,3 +5,4 @@ pub mod Turns
 pub mod Down
 pub mod Shapes
 pub mod Ranges
+pub mod Children

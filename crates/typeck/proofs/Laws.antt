@@ -96,6 +96,7 @@ reply-numbers question s w = go (eqb (refusal s) 0) (question (tree s) w)
 -- a pass's part of the list
 pub part-answer : (pass : Tree → List Rec) (s : List ℕ) {o o′ : List ℕ} {k : ℕ} → refusal s ≡ 0 → Laid o 0 (pass (tree s)) o′ k → (listed.Records k ≡ listedOf pass s) × (o′ ≡ wordsOf pass s o)
 part-answer pass s {o} {o′} {k} e L =
-    let n : k ≡ length (pass (tree s)) = let c = L .count in omega arith in
-    (ap listed.Records n ∙ on-admitted s (listed.Records (length (pass (tree s)))) (listed.Refused (refusal s)) e,
-    L .words ∙ on-admitted s (partBuffer pass s o) o e)
+    let n : k ≡ length (pass (tree s)) = let c = L .count in omega arith in (
+      ap listed.Records n ∙ on-admitted s (listed.Records (length (pass (tree s)))) (listed.Refused (refusal s)) e,
+      L .words ∙ on-admitted s (partBuffer pass s o) o e,
+    )
