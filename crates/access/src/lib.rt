@@ -294,30 +294,18 @@ fn entries(
     at
 }
 
-// The mark of the name w, if the image has one.
-fn mark_word(image: &[u8], n: usize, m: usize, w: &[u8], tab: &mut [bool])
-    requires { ⌜ Header (now image) n m × (length (now tab) ≡ 1024) ⌝ }
-    ensures { λ _. ⌜ (length (now (tab .exit)) ≡ 1024) × ((P : List ℕ → Bool) → Marks (now (image .entry)) P (now (tab .entry))
-        → Marks (now (image .entry)) (λ v. either (P v) (same v (now (w .entry)))) (now (tab .exit))) ⌝ }
-{
-    let x = model::number_of(image, n, m, w);
-    if 0 < x {
-        nodes::mark(tab, x, true);
-    }
-}
-
 // The marks of the words that write their base.
 fn mark_writers(image: &[u8], n: usize, m: usize, tab: &mut [bool])
     requires { ⌜ Header (now image) n m × (length (now tab) ≡ 1024) ⌝ }
     ensures { λ _. ⌜ (length (now (tab .exit)) ≡ 1024) × (Marks (now (image .entry)) (λ w. false) (now (tab .entry)) → Marks (now (image .entry)) isWriter (now (tab .exit))) ⌝ }
 {
-    mark_word(image, n, m, b"merge", tab);
-    mark_word(image, n, m, b"split", tab);
-    mark_word(image, n, m, b"credit", tab);
-    mark_word(image, n, m, b"debit", tab);
-    mark_word(image, n, m, b"insert", tab);
-    mark_word(image, n, m, b"remove", tab);
-    mark_word(image, n, m, b"set", tab);
+    model::mark_word(image, n, m, b"merge", tab);
+    model::mark_word(image, n, m, b"split", tab);
+    model::mark_word(image, n, m, b"credit", tab);
+    model::mark_word(image, n, m, b"debit", tab);
+    model::mark_word(image, n, m, b"insert", tab);
+    model::mark_word(image, n, m, b"remove", tab);
+    model::mark_word(image, n, m, b"set", tab);
 }
 
 // The records of the access pass of an admitted image with n nodes and m names, from the buffer's start.

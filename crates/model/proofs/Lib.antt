@@ -3,3 +3,4 @@ pub mod Heads
 pub mod Said
 pub mod Questions
 pub mod Called
+pub mod Marked

@@ -7,7 +7,7 @@ ghost use lib.ListN.{length};
 ghost use Rattle.image.specs.Node.{kindOf};
 ghost use Rattle.image.specs.Text.{less, textOf};
 ghost use Rattle.image.specs.Admit.{refusal, nodeCount, nameCount};
-ghost use Rattle.rules.specs.Sweep.{also, has, same};
+ghost use Rattle.rules.specs.Sweep.{also, has, either, same};
 ghost use Rattle.rules.specs.Tree.{tree, type};
 ghost use Rattle.rules.specs.Vocabulary.{named, someBelow, declares, isField};
 ghost use Rattle.rules.specs.Model.{isState, isDeclaredAsset, isKnownAsset, inner};
@@ -223,4 +223,16 @@ pub fn calls_field(part: &[u8], b: usize, c: usize, table: &[bool]) -> bool
     }
     let f = nodes::end(part, b, c + 2);
     nodes::marked(table, nodes::name(part, b, f))
+}
+
+// The mark of the name w, if the image has one.
+pub fn mark_word(image: &[u8], n: usize, m: usize, w: &[u8], tab: &mut [bool])
+    requires { ⌜ Header (now image) n m × (length (now tab) ≡ 1024) ⌝ }
+    ensures { λ _. ⌜ (length (now (tab .exit)) ≡ 1024) × ((P : List ℕ → Bool) → Marks (now (image .entry)) P (now (tab .entry))
+        → Marks (now (image .entry)) (λ v. either (P v) (same v (now (w .entry)))) (now (tab .exit))) ⌝ }
+{
+    let x = number_of(image, n, m, w);
+    if 0 < x {
+        nodes::mark(tab, x, true);
+    }
 }

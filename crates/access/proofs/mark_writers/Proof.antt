@@ -6,7 +6,7 @@ use Rattle.access.proofs.mark_writers.Statement.{statement}
 use Rattle.access.proofs.mark_writers.Tie as tie
 use Rattle.access.proofs.mark_writers.Reads as reads
 use Rattle.access.proofs.mark_writers.Lts as lts
-use Rattle.access.proofs.mark_word.Reads as mark-word-reads
+use Rattle.model.proofs.mark_word.Reads as mark-word-reads
 
 -- src/lib.rt:328:28
 slice-aggregate-mark-word : tie.Need-slice-aggregate-mark-word

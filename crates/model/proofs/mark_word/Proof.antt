@@ -1,14 +1,14 @@
 use native.Mathlib.Omega.{arith}
 use mathlib.Core.Path.{_≡_, _∙_, sym, ap}
 use lib.ListN.{length, length-set}
 use Rattle.model.proofs.Heads.{bounds}
-use Rattle.access.proofs.Writers.{word-none, word-marks}
+use Rattle.model.proofs.Marked.{word-none, word-marks}
 use borrow.Author.Needs.{needs}
-use Rattle.access.proofs.mark_word.Statement.{statement}
-use Rattle.access.proofs.mark_word.Tie as tie
-use Rattle.access.proofs.mark_word.Reads as reads
-use Rattle.access.proofs.mark_word.Lts as lts
+use Rattle.model.proofs.mark_word.Statement.{statement}
+use Rattle.model.proofs.mark_word.Tie as tie
+use Rattle.model.proofs.mark_word.Reads as reads
+use Rattle.model.proofs.mark_word.Lts as lts
 use Rattle.model.proofs.number_of.Reads as number-of-reads
 use Rattle.nodes.proofs.mark.Reads as mark-reads
 
 -- src/lib.rt:317:9
