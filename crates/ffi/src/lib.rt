@@ -6,8 +6,9 @@ ghost use mathlib.Core.Path.{_≡_};
 ghost use Rattle.image.specs.Admit.{refusal};
 ghost use Rattle.rules.specs.Model.{isState, isDeclaredAsset, isKnownAsset};
 ghost use Rattle.rules.specs.Access.{access};
+ghost use Rattle.rules.specs.Linear.{linear};
 ghost use Rattle.rules.specs.Answers.{passAnswer, ask};
-ghost use Rattle.typeck.specs.Face.{answerOf, numbered, oneOf, listedOf, listingOf, wordsOf};
+ghost use Rattle.typeck.specs.Face.{answerOf, verdictsOf, numbered, oneOf, listedOf, listingOf, wordsOf};
 
 // The number of the image's refusal, 0 where it is admitted.
 #[no_mangle]
@@ -55,6 +56,58 @@ pub extern "C" fn isonkaypu_access(
         × (now (from .exit) ≡ passAnswer access (now (image .entry)) .from) × (now (to .exit) ≡ passAnswer access (now (image .entry)) .to) ⌝ }
 {
     give(typeck::access(image), place, from, to)
+}
+
+// The verdict of the linear pass.
+#[no_mangle]
+pub extern "C" fn isonkaypu_linear(
+    image: &[u8],
+    place: &mut u16,
+    from: &mut u32,
+    to: &mut u32,
+) -> usize
+    ensures { λ r. ⌜ (r ≡ passAnswer linear (now (image .entry)) .number) × (now (place .exit) ≡ passAnswer linear (now (image .entry)) .place)
+        × (now (from .exit) ≡ passAnswer linear (now (image .entry)) .from) × (now (to .exit) ≡ passAnswer linear (now (image .entry)) .to) ⌝ }
+{
+    give(typeck::linear(image), place, from, to)
+}
+
+// A verdict's number and place.
+fn point(v: Verdict, place: &mut u16) -> usize
+    ensures { λ r. ⌜ (r ≡ answerOf v .number) × (now (place .exit) ≡ answerOf v .place) ⌝ }
+{
+    match v {
+        Verdict::Image(r) => {
+            *place = 0;
+            r
+        }
+        Verdict::Accepted => {
+            *place = 0;
+            0
+        }
+        Verdict::Refused(c, p, _, _) => {
+            *place = p;
+            c as usize
+        }
+    }
+}
+
+// Both verdicts with one admission: the access pass's number is answered, its place is stored in `place`, and the linear pass's number and place in `code` and `spot`.
+#[no_mangle]
+pub extern "C" fn isonkaypu_verdicts(
+    image: &[u8],
+    place: &mut u16,
+    code: &mut usize,
+    spot: &mut u16,
+) -> usize
+    ensures { λ r. ⌜ (r ≡ answerOf (verdictsOf (now (image .entry)) .access) .number) × (now (place .exit) ≡ answerOf (verdictsOf (now (image .entry)) .access) .place)
+        × (now (code .exit) ≡ answerOf (verdictsOf (now (image .entry)) .linear) .number) × (now (spot .exit) ≡ answerOf (verdictsOf (now (image .entry)) .linear) .place) ⌝ }
+{
+    let answers = typeck::verdicts(image);
+    let linear = answers.linear;
+    let access = answers.access;
+    *code = point(linear, spot);
+    point(access, place)
 }
 
 // A reply's number, and 1 for yes, 0 for no.
@@ -124,4 +177,13 @@ pub extern "C" fn isonkaypu_access_list(image: &[u8], words: &mut [u16], count: 
         × (now (words .exit) ≡ wordsOf access (now (image .entry)) (now (words .entry))) ⌝ }
 {
     tell(typeck::access_list(image, words), count)
+}
+
+// The linear pass's part of the list.
+#[no_mangle]
+pub extern "C" fn isonkaypu_linear_list(image: &[u8], words: &mut [u16], count: &mut usize) -> usize
+    ensures { λ r. ⌜ (r ≡ listingOf (listedOf linear (now (image .entry))) .number) × (now (count .exit) ≡ listingOf (listedOf linear (now (image .entry))) .records)
+        × (now (words .exit) ≡ wordsOf linear (now (image .entry)) (now (words .entry))) ⌝ }
+{
+    tell(typeck::linear_list(image, words), count)
 }

@@ -37,14 +37,17 @@ fn print_verdict(name: &[u8], v: Verdict) {
 }
 
 fn report(image: &[u8]) {
-    let r = typeck::refused(image);
-    if r != 0 {
+    let answers = typeck::verdicts(image);
+    let access = answers.access;
+    let linear = answers.linear;
+    if let Verdict::Image(r) = access {
         print(b"image");
         print_number(r);
         print(b"\n");
         return;
     }
-    print_verdict(b"access", typeck::access(image));
+    print_verdict(b"access", access);
+    print_verdict(b"linear", linear);
 }
 
 fn main() {

@@ -9,13 +9,23 @@ use Rattle.image.specs.Pick.{pick}
 use Rattle.image.specs.Admit.{refusal}
 use Rattle.rules.specs.Tree.{Tree, tree}
 use Rattle.rules.specs.Vocabulary.{Rec}
+use Rattle.rules.specs.Access.{access}
+use Rattle.rules.specs.Linear.{linear}
 use Rattle.rules.specs.Answers as rules
+use Rattle.typeck.specs.declared.Pass.{Pass}
+use Rattle.typeck.specs.declared.Pass.the-variants as pass
+use Rattle.typeck.specs.declared.Answers.{Answers}
 use Rattle.typeck.specs.declared.Verdict.{Verdict}
 use Rattle.typeck.specs.declared.Verdict.the-variants as verdict
 use Rattle.typeck.specs.declared.Reply.{Reply}
 use Rattle.typeck.specs.declared.Reply.the-variants as reply
 use Rattle.typeck.specs.declared.Listed.{Listed}
 use Rattle.typeck.specs.declared.Listed.the-variants as listed
+
+-- the records of each pass
+abbrev pub recordsOf : Pass → Tree → List Rec
+recordsOf pass.Access = access
+recordsOf pass.Linear = linear
 
 -- a pass: by its first record, or acceptance; the image's refusal where it has one
 abbrev pub firstOf : List ℕ → List Rec → Verdict
@@ -24,6 +34,13 @@ firstOf s (r ∷ l) = verdict.Refused (r .code) (r .place) (rules.spanFrom s (r 
 
 abbrev pub verdictOf : (Tree → List Rec) → List ℕ → Verdict
 verdictOf pass s = pick (eqb (refusal s) 0) (firstOf s (pass (tree s))) (verdict.Image (refusal s))
+
+-- all passes
+abbrev pub verdictsOf : List ℕ → Answers
+verdictsOf s =
+    pick (eqb (refusal s) 0)
+    (record { access = firstOf s (access (tree s)); linear = firstOf s (linear (tree s)) })
+    (record { access = verdict.Image (refusal s); linear = verdict.Image (refusal s) })
 
 -- the number, place and spans of each case
 abbrev pub answerOf : Verdict → rules.Answer

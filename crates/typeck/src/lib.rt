@@ -8,10 +8,12 @@ ghost use lib.ListN.{length, replicate};
 ghost use Rattle.image.specs.Admit.{refusal};
 ghost use Rattle.rules.specs.Vocabulary.{Rec};
 ghost use Rattle.rules.specs.Model.{isState, isDeclaredAsset, isKnownAsset};
+ghost use Rattle.rules.specs.Tree.{tree};
 ghost use Rattle.rules.specs.Access.{access};
+ghost use Rattle.rules.specs.Linear.{linear};
 ghost use Rattle.records.specs.Records.{Laid};
 ghost use Rattle.model.specs.Found.{Header};
-ghost use Rattle.typeck.specs.Face.{firstOf, verdictOf, yesNo, replyOf, listedOf, wordsOf};
+ghost use Rattle.typeck.specs.Face.{recordsOf, firstOf, verdictOf, verdictsOf, yesNo, replyOf, listedOf, wordsOf};
 
 // What a pass answers: the image's refusal, acceptance, or the code, the place and its two span words.
 pub enum Verdict {
@@ -70,34 +72,111 @@ fn judge(image: &[u8], n: usize, out: &[u16], k: usize) -> Verdict
     Verdict::Refused(code, place, from as u32, to as u32)
 }
 
-// The verdict of the access pass.
-pub fn access(image: &[u8]) -> Verdict
-    ensures { λ r. ⌜ r ≡ verdictOf access (now (image .entry)) ⌝ }
+// The passes, in the order that they run in.
+pub enum Pass {
+    Access,
+    Linear,
+}
+
+// The records of a pass, from the buffer's start: what fits is written, all is counted.
+fn list_of(pass: Pass, image: &[u8], n: usize, m: usize, out: &mut [u16]) -> usize
+    requires { ⌜ Header (now image) n m ⌝ }
+    ensures { λ r. ⌜ Laid (now (out .entry)) 0 (recordsOf pass (tree (now (image .entry)))) (now (out .exit)) r × (length (now (out .exit)) ≡ length (now (out .entry))) ⌝ }
+{
+    match pass {
+        Pass::Access => access::list(image, n, m, out),
+        Pass::Linear => linear::list(image, n, m, out),
+    }
+}
+
+// The verdict of a pass on an admitted image with n nodes and m names.
+fn first_of(pass: Pass, image: &[u8], n: usize, m: usize) -> Verdict
+    requires { ⌜ Header (now image) n m ⌝ }
+    ensures { λ r. ⌜ r ≡ firstOf (now (image .entry)) (recordsOf pass (tree (now (image .entry)))) ⌝ }
+{
+    let mut out = [0u16; 3];
+    let k = list_of(pass, image, n, m, &mut out);
+    judge(image, n, &out, k)
+}
+
+fn verdict_of(pass: Pass, image: &[u8]) -> Verdict
+    ensures { λ r. ⌜ r ≡ verdictOf (recordsOf pass) (now (image .entry)) ⌝ }
 {
     match image::admit(image) {
         Admission::Refused(r) => Verdict::Image(r),
         Admission::Admitted(header) => {
             let n = header.nodes;
             let m = header.names;
-            let mut out = [0u16; 3];
-            let k = access::list(image, n, m, &mut out);
-            judge(image, n, &out, k)
+            first_of(pass, image, n, m)
         }
     }
 }
 
-// The access pass's part of the list, from the buffer's start: what fits is written, all is counted.
-pub fn access_list(image: &[u8], words: &mut [u16]) -> Listed
-    ensures { λ r. ⌜ (r ≡ listedOf access (now (image .entry))) × (now (words .exit) ≡ wordsOf access (now (image .entry)) (now (words .entry))) ⌝ }
+// The verdict of the access pass.
+pub fn access(image: &[u8]) -> Verdict
+    ensures { λ r. ⌜ r ≡ verdictOf access (now (image .entry)) ⌝ }
+{
+    verdict_of(Pass::Access, image)
+}
+
+// The verdict of the linear pass.
+pub fn linear(image: &[u8]) -> Verdict
+    ensures { λ r. ⌜ r ≡ verdictOf linear (now (image .entry)) ⌝ }
+{
+    verdict_of(Pass::Linear, image)
+}
+
+// The verdicts of all passes.
+pub struct Answers {
+    pub access: Verdict,
+    pub linear: Verdict,
+}
+
+// All verdicts, with one admission.
+pub fn verdicts(image: &[u8]) -> Answers
+    ensures { λ r. ⌜ r ≡ verdictsOf (now (image .entry)) ⌝ }
+{
+    match image::admit(image) {
+        Admission::Refused(r) => Answers {
+            access: Verdict::Image(r),
+            linear: Verdict::Image(r),
+        },
+        Admission::Admitted(header) => {
+            let n = header.nodes;
+            let m = header.names;
+            let access = first_of(Pass::Access, image, n, m);
+            let linear = first_of(Pass::Linear, image, n, m);
+            Answers { access, linear }
+        }
+    }
+}
+
+// A pass's part of the list, from the buffer's start: what fits is written, all is counted.
+fn part_of(pass: Pass, image: &[u8], words: &mut [u16]) -> Listed
+    ensures { λ r. ⌜ (r ≡ listedOf (recordsOf pass) (now (image .entry))) × (now (words .exit) ≡ wordsOf (recordsOf pass) (now (image .entry)) (now (words .entry))) ⌝ }
 {
     match image::admit(image) {
         Admission::Refused(r) => Listed::Refused(r),
         Admission::Admitted(header) => {
             let n = header.nodes;
             let m = header.names;
-            Listed::Records(access::list(image, n, m, words))
+            Listed::Records(list_of(pass, image, n, m, words))
         }
     }
+}
+
+// The access pass's part of the list.
+pub fn access_list(image: &[u8], words: &mut [u16]) -> Listed
+    ensures { λ r. ⌜ (r ≡ listedOf access (now (image .entry))) × (now (words .exit) ≡ wordsOf access (now (image .entry)) (now (words .entry))) ⌝ }
+{
+    part_of(Pass::Access, image, words)
+}
+
+// The linear pass's part of the list.
+pub fn linear_list(image: &[u8], words: &mut [u16]) -> Listed
+    ensures { λ r. ⌜ (r ≡ listedOf linear (now (image .entry))) × (now (words .exit) ≡ wordsOf linear (now (image .entry)) (now (words .entry))) ⌝ }
+{
+    part_of(Pass::Linear, image, words)
 }
 
 // Whether the name is that of a state field.

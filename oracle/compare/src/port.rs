@@ -13,11 +13,12 @@ const KEPT: u16 = 0xbeef;
 /// A comparison of one image; `None` where its group of functions is not linked.
 type Part = fn(&[u8]) -> Option<Result<(), Mismatch>>;
 
-const PARTS: [(&str, Part); 6] = [
+const PARTS: [(&str, Part); 7] = [
     ("refusal", refusal),
     ("questions", questions),
     ("access", access),
     ("linear", linear),
+    ("verdicts", verdicts),
     ("access_list", access_list),
     ("linear_list", linear_list),
 ];
@@ -63,6 +64,14 @@ fn access(image: &[u8]) -> Option<Result<(), Mismatch>> {
 
 fn linear(image: &[u8]) -> Option<Result<(), Mismatch>> {
     Some(same("linear", expected_answer(Pass::Linear, image), port::linear(image)?))
+}
+
+fn verdicts(image: &[u8]) -> Option<Result<(), Mismatch>> {
+    let expected = [Pass::Access, Pass::Linear].map(|pass| {
+        let answer = expected_answer(pass, image);
+        (answer.result, answer.place)
+    });
+    Some(same("verdicts", expected, port::verdicts(image)?))
 }
 
 /// The reference's verdict as the library gives it.

@@ -22,6 +22,7 @@ mod exported {
     pub type Refusal = unsafe extern "C" fn(*const u8, usize) -> usize;
     pub type Pass = unsafe extern "C" fn(*const u8, usize, *mut u16, *mut u32, *mut u32) -> usize;
     pub type Question = unsafe extern "C" fn(*const u8, usize, *const u8, usize, *mut u8) -> usize;
+    pub type Both = unsafe extern "C" fn(*const u8, usize, *mut u16, *mut usize, *mut u16) -> usize;
     pub type List = unsafe extern "C" fn(*const u8, usize, *mut u16, usize, *mut usize) -> usize;
 
     /// Declares functions of one shape, where their group is linked.
@@ -49,6 +50,11 @@ mod exported {
         "linear",
         [isonkaypu_linear],
         (image: *const u8, image_len: usize, place: *mut u16, from: *mut u32, to: *mut u32)
+    );
+    export!(
+        "verdicts",
+        [isonkaypu_verdicts],
+        (image: *const u8, image_len: usize, place: *mut u16, code: *mut usize, spot: *mut u16)
     );
     export!(
         "access_list",
@@ -100,6 +106,17 @@ fn pass(function: exported::Pass, image: &[u8]) -> Option<Answer> {
     // SAFETY: pointer and length are those of a live slice; the rest are live and exclusive.
     let result = unsafe { function(image.as_ptr(), image.len(), &mut place, &mut from, &mut to) };
     Some(Answer { result: small(result), place, from, to })
+}
+
+/// Code and place of access and of linear, with one admission.
+pub fn verdicts(image: &[u8]) -> Option<[(u8, u16); 2]> {
+    let function = linked!("verdicts", isonkaypu_verdicts as exported::Both)?;
+    let mut place = u16::from_ne_bytes([UNSET; 2]);
+    let mut code = usize::from_ne_bytes([UNSET; size_of::<usize>()]);
+    let mut spot = place;
+    // SAFETY: pointer and length are those of a live slice; the rest are live and exclusive.
+    let result = unsafe { function(image.as_ptr(), image.len(), &mut place, &mut code, &mut spot) };
+    Some([(small(result), place), (small(code), spot)])
 }
 
 /// The result, 0 to 8, and the byte that says yes (1) or no (0).

@@ -24,7 +24,6 @@ use Rattle.access.proofs.is_write.Reads as is-write-reads
 use Rattle.nodes.proofs.kind.Reads as kind-reads
 use Rattle.records.proofs.emit.Reads as emit-reads
 
--- helpers
 is-assign : (c : tie.Else1) (W : View (c .before .before .before .before .before .before .args .part .now) (c .before .before .before .before .before .before .args .b)) → treeOf W .kind (c .before .before .before .before .before .before .args .p) ≡ 27
 is-assign c W = sym (kind-is W (c .before .before .before .before .before .before .pre .1)) ∙ sym (c .before .kind .ensures) ∙ c .if1 .left
 

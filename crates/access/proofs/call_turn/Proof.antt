@@ -28,7 +28,6 @@ use Rattle.model.proofs.calls_field.Reads as calls-field-reads
 use Rattle.nodes.proofs.kind.Reads as kind-reads
 use Rattle.records.proofs.emit.Reads as emit-reads
 
--- helpers
 abbrev words : {part : List ℕ} {b : ℕ} {state writer written : List Bool} → Body part b state writer written → Words part b writer
 words T = record { view = T .writing .view; words = writers; marks = T .writer-marks }
 

@@ -26,7 +26,6 @@ use Rattle.nodes.proofs.end.Reads as end-reads
 use Rattle.nodes.proofs.first_statement.Reads as first-statement-reads
 use Rattle.nodes.proofs.kind.Reads as kind-reads
 
--- helpers
 lies : (c : tie.After-end) → Placed (c .before .before .before .before .before .before .before .before .before .before .before .before .before .pre .0 .view) (c .before .before .before .before .before .before .before .before .before .before .before .before .before .args .p) (c .before .first-statement .result) (c .end .result)
 lies c = let W = c .before .before .before .before .before .before .before .before .before .before .before .before .before .pre .0 .view in placed W (c .before .before .before .before .before .before .before .before .before .before .before .before .before .pre .1) (c .end .ensures ∙ end-is W (c .before .before .before .before .before .before .before .before .before .before .before .before .before .pre .1)) (c .before .first-statement .ensures W)
 

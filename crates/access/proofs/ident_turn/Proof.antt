@@ -22,7 +22,6 @@ use Rattle.nodes.proofs.marked.Reads as marked-reads
 use Rattle.nodes.proofs.name.Reads as name-reads
 use Rattle.records.proofs.emit.Reads as emit-reads
 
--- helpers
 -- the node is an Ident; what the table says of its name
 is-ident : (c : tie.Else1) (T : State (c .before .before .before .before .before .args .part .now) (c .before .before .before .before .before .args .b) (c .before .before .before .before .before .args .state .now)) → treeOf (T .view) .kind (c .before .before .before .before .before .args .p) ≡ 35
 is-ident c T = sym (kind-is (T .view) (c .before .before .before .before .before .pre .1)) ∙ sym (c .before .kind .ensures) ∙ c .if1 .left

@@ -34,7 +34,6 @@ Inv-loop part b state out₀ k e at₀ p₀ out at p = Sweeping (λ (T : State p
 abbrev μ-loop : tie.MeasureT-loop
 μ-loop part b state out₀ k e at₀ p₀ out at p = e - p
 
--- helpers
 at-walk : (c : tie.In-loop Inv-loop μ-loop) (W : View (c .before .before .before .before .before .before .args .part .now) (c .before .before .before .before .before .before .args .b)) → In (c .before .before .before .before .before .before .args .part .now) (c .before .before .before .before .before .before .args .b) (c .before .loop .p)
 at-walk c W = let e = c .before .before .end .ensures ∙ end-is W (c .before .before .before .before .before .before .pre .1) in let l = c .before .loop .inv .low in within W (c .before .before .before .before .before .before .pre .1) (omega arith) (omega arith)
 

@@ -22,7 +22,6 @@ use Rattle.nodes.proofs.kind.Reads as kind-reads
 use Rattle.nodes.proofs.marked.Reads as marked-reads
 use Rattle.nodes.proofs.name.Reads as name-reads
 
--- helpers
 -- the root stands in the part; it is an Ident; what a table says of its name
 before-end : (c : tie.Else1) (W : View (c .before .before .before .before .before .before .args .part .now) (c .before .before .before .before .before .before .args .b)) → c .before .before .bottom .result < treeOf W .end (c .before .before .before .before .before .before .args .x)
 before-end c W = let e = c .before .end .ensures ∙ end-is W (c .before .before .before .before .before .before .pre .1) in omega arith

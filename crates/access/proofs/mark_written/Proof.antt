@@ -27,7 +27,6 @@ Inv-loop part b p on tab₀ e q₀ tab q = Marking on (λ (W : View part b). W .
 abbrev μ-loop : tie.MeasureT-loop
 μ-loop part b p on tab₀ e q₀ tab q = e - q
 
--- helpers
 at-walk : (c : tie.In-loop Inv-loop μ-loop) (W : View (c .before .before .before .before .before .args .part .now) (c .before .before .before .before .before .args .b)) → In (c .before .before .before .before .before .args .part .now) (c .before .before .before .before .before .args .b) (c .before .loop .q)
 at-walk c W = let e = c .before .before .end .ensures ∙ end-is W (c .before .before .before .before .before .pre .1) in let l = c .before .loop .inv .low in within W (c .before .before .before .before .before .pre .1) (omega arith) (omega arith)
 

@@ -32,7 +32,6 @@ Inv-loop part b state writer written out₀ k e at₀ p₀ out at p = Sweeping (
 abbrev μ-loop : tie.MeasureT-loop
 μ-loop part b state writer written out₀ k e at₀ p₀ out at p = e - p
 
--- helpers
 at-walk : (c : tie.In-loop Inv-loop μ-loop) (W : View (c .before .before .before .before .before .before .before .args .part .now) (c .before .before .before .before .before .before .before .args .b)) → In (c .before .before .before .before .before .before .before .args .part .now) (c .before .before .before .before .before .before .before .args .b) (c .before .loop .p)
 at-walk c W = let y = W .shown .bytes in let l = c .before .loop .inv .low in let z = W .shown .low in there W l (omega arith)
 

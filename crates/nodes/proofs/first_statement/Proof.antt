@@ -26,7 +26,6 @@ Inv-loop part b p e q₀ q = (p < q) × (q ≤ e) × ((W : View part b) (i : ℕ
 abbrev μ-loop : tie.MeasureT-loop
 μ-loop part b p e q₀ q = e - q
 
--- helpers
 at-walk : (c : tie.In-loop Inv-loop μ-loop) (W : View (c .before .before .before .before .args .part .now) (c .before .before .before .before .args .b)) → In (c .before .before .before .before .args .part .now) (c .before .before .before .before .args .b) (c .before .loop .q)
 at-walk c W = let e = c .before .before .end .ensures ∙ end-is W (c .before .before .before .before .pre .1) in let l = c .before .loop .inv .0 in within W (c .before .before .before .before .pre .1) l (omega arith)
 

@@ -37,7 +37,6 @@ Inv-loop q part b e burned first marks₀ f y₀ marks y = Tallying (λ (T : Bur
 abbrev μ-loop : tie.MeasureT-loop
 μ-loop q part b e burned first marks₀ f y₀ marks y = f - y
 
--- helpers
 at-walk : (c : tie.In-loop Inv-loop μ-loop) (W : View (c .before .before .before .before .before .before .before .args .part .now) (c .before .before .before .before .before .before .before .args .b)) → In (c .before .before .before .before .before .before .before .args .part .now) (c .before .before .before .before .before .before .before .args .b) (c .before .loop .y)
 at-walk c W = let e = c .before .before .end .ensures ∙ end-is W (c .before .before .before .before .before .before .before .pre .1) in let l = c .before .loop .inv .low in within W (c .before .before .before .before .before .before .before .pre .1) (omega arith) (omega arith)
 

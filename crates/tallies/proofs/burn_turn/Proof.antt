@@ -33,7 +33,6 @@ use Rattle.nodes.proofs.marked.Reads as marked-reads
 use Rattle.nodes.proofs.name.Reads as name-reads
 use Rattle.rows.proofs.bump.Reads as bump-reads
 
--- helpers
 -- the node is a Param; what is inside its type
 is-param : (c : tie.Else1) (W : View (c .before .before .before .before .before .before .args .part .now) (c .before .before .before .before .before .before .args .b)) → treeOf W .kind (c .before .before .before .before .before .before .args .y) ≡ 10
 is-param c W = sym (kind-is W (c .before .before .before .before .before .before .pre .1)) ∙ sym (c .before .kind .ensures) ∙ c .if1 .left

@@ -32,7 +32,6 @@ use Rattle.nodes.proofs.name.Reads as name-reads
 use Rattle.rows.proofs.bump.Reads as bump-reads
 use Rattle.rows.proofs.note_second.Reads as note-second-reads
 
--- helpers
 is-ident : (c : tie.Else1) (W : View (c .before .before .before .before .before .before .before .args .part .now) (c .before .before .before .before .before .before .before .args .b)) → treeOf W .kind (c .before .before .before .before .before .before .before .args .i) ≡ 35
 is-ident c W = sym (kind-is W (c .before .before .before .before .before .before .before .pre .1)) ∙ sym (c .before .kind .ensures) ∙ c .if1 .left
 

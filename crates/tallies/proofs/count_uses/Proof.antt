@@ -37,7 +37,6 @@ Inv-loop part b flags last counts₀ seconds₀ e i₀ counts seconds i = Tallyi
 abbrev μ-loop : tie.MeasureT-loop
 μ-loop part b flags last counts₀ seconds₀ e i₀ counts seconds i = e - i
 
--- helpers
 -- the part's end, as each image has it
 upto-is : (part : List ℕ) (b : ℕ) (W : View part b) → b + length part / 16 ≡ W .upto
 upto-is part b W = let u = W .shown .bytes in let v = W .shown .low in omega arith

@@ -21,7 +21,6 @@ use Rattle.tallies.proofs.mark_burned.Lts as lts
 use Rattle.model.proofs.mark_names.Reads as mark-names-reads
 use Rattle.tallies.proofs.burn_marks.Reads as burn-marks-reads
 
--- helpers
 burns-named : NameFirst 18
 unfolding has
 burns-named = (omega arith, refl)

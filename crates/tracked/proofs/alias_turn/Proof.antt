@@ -31,7 +31,6 @@ use Rattle.nodes.proofs.kind.Reads as kind-reads
 use Rattle.records.proofs.emit.Reads as emit-reads
 use Rattle.tracked.proofs.is_asset_alias.Reads as is-asset-alias-reads
 
--- helpers
 here : (c : tie.After-kind) (W : View (c .before .before .before .before .before .args .part .now) (c .before .before .before .before .before .args .b)) → In (c .before .before .before .before .before .args .part .now) (c .before .before .before .before .before .args .b) (c .before .before .before .before .before .args .l)
 here c W = let e = end-is W (c .before .before .before .before .before .pre .1) in let h = c .before .before .before .before .before .pre .3 in within W (c .before .before .before .before .before .pre .1) (c .before .before .before .before .before .pre .2) (omega arith)
 

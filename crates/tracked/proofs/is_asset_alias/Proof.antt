@@ -34,7 +34,6 @@ use Rattle.nodes.proofs.kind.Reads as kind-reads
 use Rattle.nodes.proofs.name.Reads as name-reads
 use Rattle.tracked.proofs.wide.Reads as wide-reads
 
--- helpers
 -- the Let stands in the part and below the entry; its value, and the bottom of it, an Ident
 here : (c : tie.After-bottom) (W : View (c .before .before .before .before .args .part .now) (c .before .before .before .before .args .b)) → In (c .before .before .before .before .args .part .now) (c .before .before .before .before .args .b) (c .before .before .before .before .args .l)
 here c W = let e = end-is W (c .before .before .before .before .pre .1) in let h = c .before .before .before .before .pre .3 in within W (c .before .before .before .before .pre .1) (c .before .before .before .before .pre .2) (omega arith)

@@ -28,7 +28,6 @@ use Rattle.nodes.proofs.kind.Reads as kind-reads
 use Rattle.tracked.proofs.is_asset_param.Reads as is-asset-param-reads
 use Rattle.tracked.proofs.produces_asset.Reads as produces-asset-reads
 
--- helpers
 ten : has 10 (10 ∷ 25 ∷ []) ≡ true
 unfolding has
 ten = refl

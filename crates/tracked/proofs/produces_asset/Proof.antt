@@ -29,7 +29,6 @@ use Rattle.nodes.proofs.end.Reads as end-reads
 use Rattle.nodes.proofs.kind.Reads as kind-reads
 use Rattle.tracked.proofs.is_maker.Reads as is-maker-reads
 
--- helpers
 -- the value of the Let, and the bottom of it
 value : (c : tie.After-bottom) (W : View (c .before .before .args .part .now) (c .before .before .args .b)) → In (c .before .before .args .part .now) (c .before .before .args .b) (c .before .before .args .l + 2) × (treeOf W .end (c .before .before .args .l + 2) ≡ treeOf W .end (c .before .before .args .l))
 value c W = let-value W (c .before .before .pre .1) (sym (kind-is W (c .before .before .pre .1)) ∙ c .before .before .pre .2)

@@ -34,7 +34,6 @@ Inv-loop q split mint part b e names₀ places₀ first₀ last₀ f n₀ p₀ n
 abbrev μ-loop : tie.MeasureT-loop
 μ-loop q split mint part b e names₀ places₀ first₀ last₀ f n₀ p₀ names places first last n p = f - p
 
--- helpers
 at-walk : (c : tie.In-loop Inv-loop μ-loop) (W : View (c .before .before .before .before .before .before .before .before .args .part .now) (c .before .before .before .before .before .before .before .before .args .b)) → In (c .before .before .before .before .before .before .before .before .args .part .now) (c .before .before .before .before .before .before .before .before .args .b) (c .before .loop .p)
 at-walk c W = let e = c .before .before .end .ensures ∙ end-is W (c .before .before .before .before .before .before .before .before .pre .1) in let l = c .before .loop .inv .low in within W (c .before .before .before .before .before .before .before .before .pre .1) (omega arith) (omega arith)
 
