@@ -14,6 +14,7 @@ ghost use Rattle.rules.specs.Model.{isState, isDeclaredAsset, isKnownAsset, inn
 ghost use Rattle.nodes.specs.Shown.{View, In, treeOf};
 ghost use Rattle.nodes.specs.Marks.{Marks, marking};
 ghost use Rattle.nodes.specs.First.{NameFirst};
+ghost use Rattle.rules.specs.All.{parts};
 ghost use Rattle.rules.specs.Words.{Q-Asset};
 ghost use Rattle.model.specs.Inner.{InnerIs, Assets};
 ghost use Rattle.model.specs.Called.{Words};
@@ -113,6 +114,20 @@ pub fn mark_names(k: usize, part: &[u8], b: usize, a: usize, on: bool, tab: &mut
     while p < e {
         name_turn(k, part, b, p, on, tab);
         p += 1;
+    }
+}
+
+// The same for clauses of kind k of the entry a, by a walk over its children.
+pub fn mark_clauses(k: usize, part: &[u8], b: usize, a: usize, on: bool, tab: &mut [bool])
+    requires { ⌜ NameFirst k × (has k parts ≡ true) × View (now part) b × In (now part) b a × (length (now tab) ≡ 1024) ⌝ }
+    ensures { λ _. ⌜ (length (now (tab .exit)) ≡ 1024) × ((W : View (now (part .entry)) b) (P : List ℕ → Bool) → Marks (W .image) P (now (tab .entry))
+        → Marks (W .image) (λ w. marking on (P w) (someBelow (treeOf W) (k ∷ []) a (named (treeOf W) w))) (now (tab .exit))) ⌝ }
+{
+    let e = nodes::end(part, b, a);
+    let mut p = a + 1;
+    while p < e {
+        name_turn(k, part, b, p, on, tab);
+        p = nodes::next(part, b, p);
     }
 }
 

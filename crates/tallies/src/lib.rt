@@ -80,9 +80,9 @@ pub fn mark_burned(
         × ((r : ℕ) → getD (now (marks .entry)) r 0 ≡ 0
         → getD (now (marks .exit)) r 0 ≡ length (hits (burnHit (T .view .image) e (now (first .entry)) r) (e + 1) (treeOf (T .view) .end e)))) ⌝ }
 {
-    model::mark_names(18, part, b, e, true, burned);
+    model::mark_clauses(18, part, b, e, true, burned);
     burn_marks(q, part, b, e, burned, first, marks);
-    model::mark_names(18, part, b, e, false, burned);
+    model::mark_clauses(18, part, b, e, false, burned);
 }
 
 // One node: an occurrence more, where it is a counted Ident.
