@@ -1,22 +1,26 @@
-//! Links `target/staticlib/libffi.a` of the repository when a group of its functions is asked for.
+//! Links the proved static library. Where it is missing the build ends here and says how to make
+//! it, since a program that was linked without it would have nothing to compare.
 
 use std::env;
 use std::path::PathBuf;
+use std::process::exit;
 
-const GROUPS: [&str; 6] = ["REFUSAL", "QUESTIONS", "ACCESS", "ACCESS_LIST", "LINEAR", "LINEAR_LIST"];
+const ARCHIVE: &str = "libisonkaypu.a";
 
 fn main() {
     println!("cargo:rerun-if-changed=build.rs");
     println!("cargo:rerun-if-env-changed=ISONKAYPU_STATICLIB");
-    let asked_for = |group: &&str| env::var_os(format!("CARGO_FEATURE_{group}")).is_some();
-    if !GROUPS.iter().any(asked_for) {
-        return;
-    }
     let folder = folder();
-    println!("cargo:rustc-link-search=native={}", folder.display());
-    println!("cargo:rustc-link-lib=static:-bundle=ffi");
+    let archive = folder.join(ARCHIVE);
     // else a stale archive would stay linked
-    println!("cargo:rerun-if-changed={}", folder.join("libffi.a").display());
+    println!("cargo:rerun-if-changed={}", archive.display());
+    if !archive.is_file() {
+        eprintln!("the proved library is not there: {}", archive.display());
+        eprintln!("`oracle/archive` makes it and prints its folder, for ISONKAYPU_STATICLIB");
+        exit(1);
+    }
+    println!("cargo:rustc-link-search=native={}", folder.display());
+    println!("cargo:rustc-link-lib=static:-bundle=isonkaypu");
 }
 
 /// The folder of the archive: the repository's own, unless the caller names another.

@@ -18,10 +18,10 @@ use Rattle.rules.specs.Words.{readers}
 use Rattle.rules.specs.Vocabulary.{alone, Below, CallIn, Argument, Down, Field}
 use Rattle.rules.specs.Linear.{isCounted}
 use Rattle.rules.proofs.Reflect.{Tells, tells-as, tells-both, tells-either, tells-not, tells-eqb, tells-has, tells-someBelow, tells-someCall, tells-someArgument, tells-isField, tells-atBottom, narrow}
-use Rattle.records.proofs.Sweep.{run-later}
-use Rattle.nodes.specs.Shown.{View, In, treeOf}
-use Rattle.nodes.proofs.Parts.{inside, formed}
-use Rattle.nodes.proofs.Shapes.{within, ends-within}
+use Rattle.linear_records.proofs.Sweep.{run-later}
+use Rattle.linear_nodes.specs.Shown.{View, In, treeOf}
+use Rattle.linear_nodes.proofs.Parts.{inside, formed}
+use Rattle.linear_nodes.proofs.Shapes.{within, ends-within}
 use Rattle.tracked.proofs.Lists.{not-so}
 use Rattle.tallies.specs.Tally.{hits, useHit}
 use Rattle.tallies.proofs.Hits.{use-other, use-fails}

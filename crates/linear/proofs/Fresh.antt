@@ -10,11 +10,10 @@ use lib.ListN.{length, getD, replicate, length-replicate, getD-replicate, List·
 use Rattle.image.specs.Text.{slice}
 use Rattle.rules.specs.Sweep.{either, same, hasWord}
 use Rattle.rules.specs.Words.{Q-Asset, split, mint, get, contains, has-word}
-use Rattle.nodes.specs.Marks.{Marks}
-use Rattle.nodes.proofs.Names.{marks-as}
-use Rattle.model.specs.Found.{Header, Numbered}
-use Rattle.model.proofs.Heads.{view}
-use Rattle.model.proofs.Questions.{fresh}
+use Rattle.linear_nodes.specs.Marks.{Marks}
+use Rattle.linear_nodes.proofs.Names.{marks-as}
+use Rattle.linear_model.specs.Found.{Header, Numbered}
+use Rattle.linear_model.proofs.Heads.{view, fresh}
 use Rattle.occurrences.specs.Counting.{isReader}
 use Rattle.rows.specs.Tracked.{Blank}
 use Rattle.linear.specs.Entry.{Begun, Store, Unflagged}

@@ -13,10 +13,10 @@ use Rattle.rules.specs.Sweep.{run, keep, has}
 use Rattle.rules.specs.Tree.{Tree, entry, «let», param-let}
 use Rattle.rules.specs.Vocabulary.{Rec, rec, only, alone, Below, below}
 use Rattle.rules.specs.Linear.{isRow, placeOf, marks, uses, second, judged, rowRule, rule60, linearEntry}
-use Rattle.records.specs.Records.{Laid}
-use Rattle.records.proofs.Laws.{laid-join, laid-as}
-use Rattle.records.proofs.Sweep.{run-next}
-use Rattle.nodes.specs.Shown.{View, In, treeOf}
+use Rattle.linear_records.specs.Records.{Laid}
+use Rattle.linear_records.proofs.Laws.{laid-join, laid-as}
+use Rattle.linear_records.proofs.Sweep.{run-next}
+use Rattle.linear_nodes.specs.Shown.{View, In, treeOf}
 use Rattle.rows.specs.Tracked.{Rows}
 use Rattle.rows.specs.Ruled.{ruled, ruledAt}
 use Rattle.tracked.specs.Held.{rowsOf, Held}

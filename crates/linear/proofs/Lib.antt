@@ -4,3 +4,4 @@ pub mod Judged
 pub mod Placed
 pub mod Walk
 pub mod Fresh
+pub mod Bridge

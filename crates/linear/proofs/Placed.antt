@@ -11,9 +11,9 @@ use lib.ListN.{length, getD, List·getD-eq-default}
 use Rattle.image.specs.Text.{slice}
 use Rattle.rules.specs.Sweep.{either}
 use Rattle.rules.specs.Linear.{isCounted}
-use Rattle.nodes.specs.Shown.{Shown, View, In, treeOf}
-use Rattle.nodes.specs.First.{Starts}
-use Rattle.nodes.proofs.Parts.{past, few, lent-shown}
+use Rattle.linear_nodes.specs.Shown.{Shown, View, In, treeOf}
+use Rattle.linear_nodes.specs.First.{Starts}
+use Rattle.linear_nodes.proofs.Parts.{past, few, lent-shown}
 use Rattle.occurrences.specs.Counting.{Counting}
 use Rattle.linear.specs.Entry.{Entered, Unflagged}
 use Rattle.linear.proofs.Counted.{counted-not}

@@ -17,11 +17,11 @@ use Rattle.rules.specs.Tree.{Tree, tree, entry, param, ident, param-let}
 use Rattle.rules.specs.Vocabulary.{alone, Below, below, named}
 use Rattle.rules.specs.Linear.{isRow, isEarlier, isLater, marks, uses, isBurned, isCounted}
 use Rattle.rules.proofs.Reflect.{Tells, tells-both, tells-ltb, tells-named, tells-has, tells-same, tells-someBelow}
-use Rattle.records.proofs.Sweep.{run-later}
-use Rattle.nodes.specs.Shown.{View, In, treeOf, number, word}
-use Rattle.nodes.proofs.Names.{in-range, same-not, both-true, both-false}
-use Rattle.nodes.proofs.Parts.{inside}
-use Rattle.nodes.proofs.Shapes.{within}
+use Rattle.linear_records.proofs.Sweep.{run-later}
+use Rattle.linear_nodes.specs.Shown.{View, In, treeOf, number, word}
+use Rattle.linear_nodes.proofs.Names.{in-range, same-not, both-true, both-false}
+use Rattle.linear_nodes.proofs.Parts.{inside}
+use Rattle.linear_nodes.proofs.Shapes.{within}
 use Rattle.rows.specs.Tracked.{Points, Firsts, Lasts, Rows}
 use Rattle.tracked.specs.Held.{rowsOf, Held}
 use Rattle.tracked.proofs.Lists.{rising-at, tells-self, not-so, run-none}

@@ -15,11 +15,11 @@ use Rattle.rules.specs.All.{items}
 use Rattle.rules.specs.Linear.{linearEntry, linear}
 use Rattle.rules.proofs.Reflect.{tells-has}
 use Rattle.rules.proofs.Admitted.{admitted}
-use Rattle.records.specs.Records.{Laid}
-use Rattle.records.proofs.Sweep.{laid-below}
-use Rattle.nodes.specs.Shown.{View, In, treeOf}
-use Rattle.nodes.proofs.Parts.{kind-is, end-is}
-use Rattle.nodes.proofs.Shapes.{within, ends-within}
+use Rattle.linear_records.specs.Records.{Laid}
+use Rattle.linear_records.proofs.Sweep.{laid-below}
+use Rattle.linear_nodes.specs.Shown.{View, In, treeOf}
+use Rattle.linear_nodes.proofs.Parts.{kind-is, end-is}
+use Rattle.linear_nodes.proofs.Shapes.{within, ends-within}
 use Rattle.tracked.proofs.Lists.{not-so}
 
 pub record After {part : List ℕ} {b : ℕ} (W : View part b) (p r : ℕ) : Type 0 where

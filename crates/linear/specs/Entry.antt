@@ -7,9 +7,9 @@ use lib.ListN.{length, getD}
 use Rattle.rules.specs.Tree.{entry}
 use Rattle.rules.specs.Words.{Q-Asset, split, mint}
 use Rattle.rules.specs.Vocabulary.{Below}
-use Rattle.nodes.specs.Shown.{View, treeOf}
-use Rattle.nodes.specs.Marks.{Marks}
-use Rattle.model.specs.Found.{Numbered}
+use Rattle.linear_nodes.specs.Shown.{View, treeOf}
+use Rattle.linear_nodes.specs.Marks.{Marks}
+use Rattle.linear_model.specs.Found.{Numbered}
 use Rattle.occurrences.specs.Counting.{isReader}
 use Rattle.rows.specs.Tracked.{Blank}
 

@@ -1,4 +1,5 @@
 // The linear pass: codes 60, 61 and 62 of document 01, as the pass's part of the list.
+use image::Image;
 ghost use mathlib.Core.Path.{_≡_};
 ghost use mathlib.Core.Bool.{Bool, true, false};
 ghost use mathlib.Core.List.{List, [], _∷_};
@@ -10,10 +11,13 @@ ghost use Rattle.image.specs.Node.{kindOf, endOf};
 ghost use Rattle.rules.specs.Sweep.{either, keep, has, same};
 ghost use Rattle.rules.specs.Tree.{tree, entry};
 ghost use Rattle.rules.specs.Linear.{isCounted, second, linearEntry, linear};
-ghost use Rattle.records.specs.Records.{Laid};
-ghost use Rattle.nodes.specs.Shown.{View, In, treeOf};
-ghost use Rattle.nodes.specs.Marks.{Marks};
-ghost use Rattle.model.specs.Found.{Header};
+ghost use Rattle.records.specs.Words.{old};
+ghost use Rattle.records.specs.Records.{Adds};
+ghost use Rattle.nodes.specs.Shown.{Admitted};
+ghost use Rattle.linear_records.specs.Records.{Laid};
+ghost use Rattle.linear_nodes.specs.Shown.{View, In, treeOf};
+ghost use Rattle.linear_nodes.specs.Marks.{Marks};
+ghost use Rattle.linear_model.specs.Found.{Header};
 ghost use Rattle.occurrences.specs.Counting.{Counting};
 ghost use Rattle.rows.specs.Tracked.{Within};
 ghost use Rattle.tallies.specs.Tally.{hits, burnHit, useHit, Ready};
@@ -69,8 +73,8 @@ fn tally(
 {
     rows::blank(n, marks, counts, seconds);
     tallies::mark_burned(q, part, b, e, burned, first, marks);
-    let f = nodes::first_statement(part, b, e);
-    let u = nodes::end(part, b, e);
+    let f = linear_nodes::first_statement(part, b, e);
+    let u = linear_nodes::end(part, b, e);
     let a = 16 * (f - b);
     let z = 16 * (u - b);
     count_consumes(&part[a..z], f, reader, flags, last, counts, seconds);
@@ -156,7 +160,7 @@ fn entry_turn(
         × ((T : Begun (now (part .entry)) b q split mint (now (reader .entry)) (now (burned .entry)))
         → Marks (T .view .image) (λ w. false) (now (burned .exit)) × Laid (now (out .entry)) k (keep (has (treeOf (T .view) .kind p) entry) (linearEntry (treeOf (T .view))) p) (now (out .exit)) r) ⌝ }
 {
-    if nodes::kind(part, b, p) != 9 {
+    if linear_nodes::kind(part, b, p) != 9 {
         return k;
     }
     judge_entry(
@@ -186,8 +190,8 @@ fn after(part: &[u8], b: usize, p: usize) -> usize
     requires { ⌜ In (now part) b p × (p < 65536) ⌝ }
     ensures { λ r. ⌜ r ≡ pick (eqb (kindOf (now (part .entry)) (p - b)) 9) (endOf (now (part .entry)) (p - b)) (p + 1) ⌝ }
 {
-    if nodes::kind(part, b, p) == 9 {
-        return nodes::end(part, b, p);
+    if linear_nodes::kind(part, b, p) == 9 {
+        return linear_nodes::end(part, b, p);
     }
     p + 1
 }
@@ -217,7 +221,7 @@ fn entries(
     ensures { λ r. ⌜ ((T : Begun (now (part .entry)) b q split mint (now (reader .entry)) (now (burned .entry)))
         → Laid (now (out .entry)) k (linear (treeOf (T .view))) (now (out .exit)) r) × (r ≤ k + 2559 * 2048) × (length (now (out .exit)) ≡ length (now (out .entry))) ⌝ }
 {
-    let e = nodes::end(part, b, 0);
+    let e = linear_nodes::end(part, b, 0);
     let mut at = k;
     let mut p = 1;
     while p < e {
@@ -246,18 +250,18 @@ fn entries(
     at
 }
 
-// The linear pass's records of an admitted image with n nodes and m names, from the buffer's start; gives their number.
-pub fn list(image: &[u8], n: usize, m: usize, out: &mut [u16]) -> usize
+// The records of an admitted image with n nodes and m names, from the buffer's start, in the words of linear_records.
+fn records_of(image: &[u8], n: usize, m: usize, out: &mut [u16]) -> usize
     requires { ⌜ Header (now image) n m ⌝ }
-    ensures { λ r. ⌜ Laid (now (out .entry)) 0 (linear (tree (now (image .entry)))) (now (out .exit)) r × (length (now (out .exit)) ≡ length (now (out .entry))) ⌝ }
+    ensures { λ r. ⌜ Laid (now (out .entry)) 0 (linear (tree (now (image .entry)))) (now (out .exit)) r × (r ≤ 2559 * 2048) ⌝ }
 {
-    let q = model::number_of(image, n, m, b"Q_Asset");
-    let split = model::number_of(image, n, m, b"split");
-    let mint = model::number_of(image, n, m, b"mint");
+    let q = linear_model::number_of(image, n, m, b"Q_Asset");
+    let split = linear_model::number_of(image, n, m, b"split");
+    let mint = linear_model::number_of(image, n, m, b"mint");
     let mut reader = [false; 1024];
-    model::mark_word(image, n, m, b"get", &mut reader);
-    model::mark_word(image, n, m, b"contains", &mut reader);
-    model::mark_word(image, n, m, b"has", &mut reader);
+    linear_model::mark_word(image, n, m, b"get", &mut reader);
+    linear_model::mark_word(image, n, m, b"contains", &mut reader);
+    linear_model::mark_word(image, n, m, b"has", &mut reader);
     let mut burned = [false; 1024];
     let mut flags = [false; 2048];
     let mut names = [0u16; 511];
@@ -287,4 +291,14 @@ pub fn list(image: &[u8], n: usize, m: usize, out: &mut [u16]) -> usize
         out,
         0,
     )
+}
+
+// The records of the linear pass of an admitted image, from the buffer's start.
+pub fn list(image: &[u8], head: Image, out: &mut [u16]) -> usize
+    requires { ⌜ Admitted (now image) head ⌝ }
+    ensures { λ r. ⌜ Adds (λ (_ : Unit {0}). linear (tree (old image))) (2559 * 2048) out 0 r ⌝ }
+{
+    let n = head.nodes;
+    let m = head.names;
+    records_of(image, n, m, out)
 }

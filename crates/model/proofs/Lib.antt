@@ -1,6 +1,4 @@
-pub mod Search
-pub mod Heads
-pub mod Said
-pub mod Questions
-pub mod Called
-pub mod Marked
+pub mod Walking
+pub mod Inner
+pub mod Lacking
+pub mod Known

@@ -1,253 +1,151 @@
-// The model of a contract ("Model" of document 01): the number of a name found by its bytes, one mark for each of 1,024 names, and the three questions.
+// "Model" of document 01: the tables of state names, declared assets and known assets, one mark for each name, and the three questions about a name.
+use image::Image;
+use nodes::ASSET;
+use nodes::FIELD_DECL;
+use nodes::Marks;
+use nodes::TYPE;
 ghost use mathlib.Core.Path.{_≡_};
 ghost use mathlib.Core.Bool.{Bool, true, false};
 ghost use mathlib.Core.List.{List, [], _∷_};
-ghost use Prim.Native.Nat.{ℕ, _+_, _*_, _-_, _<_, _≤_};
-ghost use lib.ListN.{length};
-ghost use Rattle.image.specs.Node.{kindOf};
-ghost use Rattle.image.specs.Text.{less, textOf};
-ghost use Rattle.image.specs.Admit.{refusal, nodeCount, nameCount};
-ghost use Rattle.rules.specs.Sweep.{also, has, either, same};
-ghost use Rattle.rules.specs.Tree.{tree, type};
-ghost use Rattle.rules.specs.Vocabulary.{named, someBelow, declares, isField};
-ghost use Rattle.rules.specs.Model.{isState, isDeclaredAsset, isKnownAsset, inner};
-ghost use Rattle.nodes.specs.Shown.{View, In, treeOf};
-ghost use Rattle.nodes.specs.Marks.{Marks, marking};
-ghost use Rattle.nodes.specs.First.{NameFirst};
-ghost use Rattle.rules.specs.All.{parts};
-ghost use Rattle.rules.specs.Words.{Q-Asset};
-ghost use Rattle.model.specs.Inner.{InnerIs, Assets};
-ghost use Rattle.model.specs.Called.{Words};
-ghost use Rattle.model.specs.Found.{Names, Parted, Found, Header, Numbered};
+ghost use Prim.Native.Nat.{ℕ};
+ghost use Rattle.rules.specs.Sweep.{also, has};
+ghost use Rattle.rules.specs.Tree.{tree};
+ghost use Rattle.rules.specs.Vocabulary.{named, declares};
+ghost use Rattle.rules.specs.Model.{isState, isDeclaredAsset, isKnownAsset};
+ghost use Rattle.records.specs.Words.{old, new};
+ghost use Rattle.nodes.specs.Shown.{View, In, Admitted, treeOf};
+ghost use Rattle.nodes.specs.Marks.{Marks, Turns, Makes};
+ghost use Rattle.nodes.specs.First.{NameFirst, Declaring};
+ghost use Rattle.names.specs.Found.{Numbered};
+ghost use Rattle.model.specs.Assets.{Assets, Gains, insideAt, inside};
 
-// Whether two byte strings are equal: names are equal only when their bytes are.
-fn equal(t: &[u8], w: &[u8]) -> bool
-    ensures { λ r. ⌜ r ≡ same (now (t .entry)) (now (w .entry)) ⌝ }
+// A node of this kind: the mark of its Name.
+fn mark_name(kind: usize, nodes: &[u8], p: usize, marks: &mut Marks)
+    requires { ⌜ NameFirst kind × View (now nodes) 0 × In (now nodes) 0 p ⌝ }
+    ensures { λ _. ⌜ Turns true (λ (W : View (old nodes) 0) w. also (has (treeOf W .kind p) (kind ∷ [])) (named (treeOf W) w) p) marks ⌝ }
 {
-    if t.len() != w.len() {
-        return false;
-    }
-    let mut k = 0;
-    while k < t.len() {
-        if t[k] != w[k] {
-            return false;
-        }
-        k += 1;
-    }
-    true
-}
-
-// Whether name k, from 0, is before w.
-fn is_before(names: &[u8], text: &[u8], m: usize, k: usize, w: &[u8]) -> bool
-    requires { ⌜ (k < m) × Names (now names) (now text) m ⌝ }
-    ensures { λ r. ⌜ r ≡ less (textOf (now (names .entry)) (now (text .entry)) (k + 1)) (now (w .entry)) ⌝ }
-{
-    let a = image::offset(names, k);
-    let b = image::offset(names, k + 1);
-    image::below(&text[a..b], w)
-}
-
-// How many names are before w: a binary search.
-fn count_before(names: &[u8], text: &[u8], m: usize, w: &[u8]) -> usize
-    requires { ⌜ Names (now names) (now text) m ⌝ }
-    ensures { λ r. ⌜ Parted (now (names .entry)) (now (text .entry)) m (now (w .entry)) r ⌝ }
-{
-    let mut low = 0;
-    let mut high = m;
-    while low < high {
-        let middle = (low + high) / 2;
-        if is_before(names, text, m, middle, w) {
-            low = middle + 1;
-        } else {
-            high = middle;
-        }
-    }
-    low
-}
-
-// The number of the name w, 0 where no name has these bytes.
-fn find(names: &[u8], text: &[u8], m: usize, w: &[u8]) -> usize
-    requires { ⌜ Names (now names) (now text) m ⌝ }
-    ensures { λ r. ⌜ Found (now (names .entry)) (now (text .entry)) m (now (w .entry)) r ⌝ }
-{
-    let k = count_before(names, text, m, w);
-    if m <= k {
-        return 0;
-    }
-    let a = image::offset(names, k);
-    let b = image::offset(names, k + 1);
-    if !equal(&text[a..b], w) {
-        return 0;
-    }
-    k + 1
-}
-
-// The number of the name w of an admitted image with n nodes and m names.
-pub fn number_of(image: &[u8], n: usize, m: usize, w: &[u8]) -> usize
-    requires { ⌜ Header (now image) n m ⌝ }
-    ensures { λ r. ⌜ Numbered (now (image .entry)) (now (w .entry)) r ⌝ }
-{
-    let a = 24 + 16 * n;
-    let b = a + 2 * (m + 1);
-    find(&image[a..b], &image[b..], m, w)
-}
-
-// A node of kind k: the mark of its Name is set, or taken off.
-fn name_turn(k: usize, part: &[u8], b: usize, p: usize, on: bool, tab: &mut [bool])
-    requires { ⌜ NameFirst k × View (now part) b × In (now part) b p × (length (now tab) ≡ 1024) ⌝ }
-    ensures { λ _. ⌜ (length (now (tab .exit)) ≡ 1024) × ((W : View (now (part .entry)) b) (P : List ℕ → Bool) → Marks (W .image) P (now (tab .entry))
-        → Marks (W .image) (λ w. marking on (P w) (also (has (treeOf W .kind p) (k ∷ [])) (named (treeOf W) w) p)) (now (tab .exit))) ⌝ }
-{
-    if nodes::kind(part, b, p) == k {
-        nodes::mark(tab, nodes::name(part, b, p + 1), on);
+    if nodes::kind(nodes, 0, p) == kind {
+        nodes::mark(marks, nodes, 0, p + 1, true);
     }
 }
 
-// The marks of the Names of the nodes of kind k below node a are set, or taken off: fields, Asset items, Burns clauses.
-pub fn mark_names(k: usize, part: &[u8], b: usize, a: usize, on: bool, tab: &mut [bool])
-    requires { ⌜ NameFirst k × View (now part) b × In (now part) b a × (length (now tab) ≡ 1024) ⌝ }
-    ensures { λ _. ⌜ (length (now (tab .exit)) ≡ 1024) × ((W : View (now (part .entry)) b) (P : List ℕ → Bool) → Marks (W .image) P (now (tab .entry))
-        → Marks (W .image) (λ w. marking on (P w) (someBelow (treeOf W) (k ∷ []) a (named (treeOf W) w))) (now (tab .exit))) ⌝ }
+// The marks of the Names of the items or fields of this kind, by a walk over the items and fields of the contract.
+fn mark_names(kind: usize, nodes: &[u8], marks: &mut Marks)
+    requires { ⌜ Declaring kind × View (now nodes) 0 × In (now nodes) 0 0 ⌝ }
+    ensures { λ _. ⌜ Turns true (λ (W : View (old nodes) 0). declares (treeOf W) (kind ∷ []) 0) marks ⌝ }
 {
-    let e = nodes::end(part, b, a);
-    let mut p = a + 1;
-    while p < e {
-        name_turn(k, part, b, p, on, tab);
-        p += 1;
+    let end = nodes::end(nodes, 0, 0);
+    let mut p = 1;
+    while p < end {
+        mark_name(kind, nodes, p, marks);
+        p = nodes::next_declaration(nodes, 0, p);
     }
 }
 
-// The same for clauses of kind k of the entry a, by a walk over its children.
-pub fn mark_clauses(k: usize, part: &[u8], b: usize, a: usize, on: bool, tab: &mut [bool])
-    requires { ⌜ NameFirst k × (has k parts ≡ true) × View (now part) b × In (now part) b a × (length (now tab) ≡ 1024) ⌝ }
-    ensures { λ _. ⌜ (length (now (tab .exit)) ≡ 1024) × ((W : View (now (part .entry)) b) (P : List ℕ → Bool) → Marks (W .image) P (now (tab .entry))
-        → Marks (W .image) (λ w. marking on (P w) (someBelow (treeOf W) (k ∷ []) a (named (treeOf W) w))) (now (tab .exit))) ⌝ }
+// The marks of the state names: all fields of all State blocks.
+pub fn mark_state(nodes: &[u8], state: &mut Marks)
+    requires { ⌜ View (now nodes) 0 × In (now nodes) 0 0 ⌝ }
+    ensures { λ _. ⌜ Makes isState nodes state ⌝ }
 {
-    let e = nodes::end(part, b, a);
-    let mut p = a + 1;
-    while p < e {
-        name_turn(k, part, b, p, on, tab);
-        p = nodes::next(part, b, p);
-    }
+    mark_names(FIELD_DECL, nodes, state);
 }
 
-// The number of the name of the first argument of the Type y, if y is named `Q_Asset`, which has the number q, and that argument is a type; else 0.
-pub fn inner_of(q: usize, part: &[u8], b: usize, y: usize) -> usize
-    requires { ⌜ View (now part) b × In (now part) b y × (kindOf (now part) (y - b) ≡ 11) ⌝ }
-    ensures { λ r. ⌜ ((A : Assets (now (part .entry)) b q) → InnerIs (A .view .image) y r) ⌝ }
+// The marks of the declared assets: Asset items.
+pub fn mark_declared(nodes: &[u8], declared: &mut Marks)
+    requires { ⌜ View (now nodes) 0 × In (now nodes) 0 0 ⌝ }
+    ensures { λ _. ⌜ Makes isDeclaredAsset nodes declared ⌝ }
 {
-    if nodes::name(part, b, y + 1) != q {
-        return 0;
-    }
-    if nodes::end(part, b, y) <= y + 2 {
-        return 0;
-    }
-    if nodes::kind(part, b, y + 2) != 11 {
-        return 0;
-    }
-    nodes::name(part, b, y + 3)
+    mark_names(ASSET, nodes, declared);
 }
 
-// A Type: the mark of the name that its `Q_Asset` has inside.
-fn inner_turn(q: usize, part: &[u8], b: usize, p: usize, tab: &mut [bool])
-    requires { ⌜ Assets (now part) b q × In (now part) b p × (length (now tab) ≡ 1024) ⌝ }
-    ensures { λ _. ⌜ (length (now (tab .exit)) ≡ 1024) × ((A : Assets (now (part .entry)) b q) (P : List ℕ → Bool) → Marks (A .view .image) P (now (tab .entry))
-        → Marks (A .view .image) (λ w. marking true (P w) (also (has (treeOf (A .view) .kind p) type) (inner (treeOf (A .view)) w) p)) (now (tab .exit))) ⌝ }
+// A Type named `Q_Asset`, which has the number `asset`: the mark of its first argument's name, if that is a type.
+fn mark_inner(nodes: &[u8], y: usize, asset: usize, known: &mut Marks)
+    requires { ⌜ Assets (now nodes) asset × In (now nodes) 0 y ⌝ }
+    ensures { λ _. ⌜ Gains (λ (A : Assets (old nodes) asset). insideAt y A) known ⌝ }
 {
-    if nodes::kind(part, b, p) != 11 {
+    if nodes::kind(nodes, 0, y) != TYPE {
         return;
     }
-    let x = inner_of(q, part, b, p);
-    if 0 < x {
-        nodes::mark(tab, x, true);
+    if !names::is_word(asset, nodes, 0, y + 1) {
+        return;
+    }
+    if nodes::end(nodes, 0, y) <= y + 2 {
+        return;
+    }
+    if nodes::kind(nodes, 0, y + 2) != TYPE {
+        return;
+    }
+    nodes::mark(known, nodes, 0, y + 3, true);
+}
+
+// The marks of the names that a `Q_Asset` has inside, at any level, by a walk over the types of the contract.
+fn mark_inners(nodes: &[u8], asset: usize, known: &mut Marks)
+    requires { ⌜ Assets (now nodes) asset × In (now nodes) 0 0 ⌝ }
+    ensures { λ _. ⌜ Gains (λ (A : Assets (old nodes) asset). inside A) known ⌝ }
+{
+    let end = nodes::end(nodes, 0, 0);
+    let mut p = 1;
+    while p < end {
+        mark_inner(nodes, p, asset, known);
+        p = nodes::next_type(nodes, 0, p);
     }
 }
 
-// The marks of the names that a `Q_Asset` has inside, at any level.
-pub fn mark_inner(q: usize, part: &[u8], b: usize, a: usize, tab: &mut [bool])
-    requires { ⌜ Assets (now part) b q × In (now part) b a × (length (now tab) ≡ 1024) ⌝ }
-    ensures { λ _. ⌜ (length (now (tab .exit)) ≡ 1024) × ((A : Assets (now (part .entry)) b q) (P : List ℕ → Bool) → Marks (A .view .image) P (now (tab .entry))
-        → Marks (A .view .image) (λ w. marking true (P w) (someBelow (treeOf (A .view)) type a (inner (treeOf (A .view)) w))) (now (tab .exit))) ⌝ }
+// The marks of the known assets: those declared, `QTOV`, and what a `Q_Asset` has inside; no type is one where no name is `Q_Asset`.
+pub fn mark_known(image: &[u8], head: Image, known: &mut Marks)
+    requires { ⌜ Admitted (now image) head ⌝ }
+    ensures { λ _. ⌜ (Marks (old image) (λ w. false) (old known) → Marks (old image) (isKnownAsset (tree (old image))) (new known)) ⌝ }
 {
-    let e = nodes::end(part, b, a);
-    let mut p = a + 1;
-    while p < e {
-        inner_turn(q, part, b, p, tab);
-        p += 1;
+    let nodes = nodes::area(image, head);
+    mark_declared(nodes, known);
+    names::mark_word(image, head, b"QTOV", known);
+    let asset = names::number_of(image, head, b"Q_Asset");
+    if 0 < asset {
+        mark_inners(nodes, asset, known);
     }
 }
 
-// Whether w is a state name of an admitted image with n nodes and m names.
-pub fn is_state(image: &[u8], n: usize, m: usize, w: &[u8]) -> bool
-    requires { ⌜ Header (now image) n m ⌝ }
-    ensures { λ r. ⌜ r ≡ isState (tree (now (image .entry))) (now (w .entry)) ⌝ }
+// Whether a word is a name of the image that is marked.
+fn is_marked(image: &[u8], head: Image, word: &[u8], marks: &Marks) -> bool
+    requires { ⌜ Admitted (now image) head ⌝ }
+    ensures { λ r. ⌜ ((P : List ℕ → Bool) → Marks (old image) P (old marks) → (Numbered (old image) (old word) 0 → P (old word) ≡ false) → r ≡ P (old word)) ⌝ }
 {
-    is_named(4, image, n, m, w)
-}
-
-// Whether w is a declared asset.
-pub fn is_declared_asset(image: &[u8], n: usize, m: usize, w: &[u8]) -> bool
-    requires { ⌜ Header (now image) n m ⌝ }
-    ensures { λ r. ⌜ r ≡ isDeclaredAsset (tree (now (image .entry))) (now (w .entry)) ⌝ }
-{
-    is_named(2, image, n, m, w)
-}
-
-// Whether some node of kind k has the name w.
-fn is_named(k: usize, image: &[u8], n: usize, m: usize, w: &[u8]) -> bool
-    requires { ⌜ NameFirst k × Header (now image) n m ⌝ }
-    ensures { λ r. ⌜ r ≡ declares (tree (now (image .entry))) (k ∷ []) 0 (now (w .entry)) ⌝ }
-{
-    let x = number_of(image, n, m, w);
-    if x < 1 {
+    let x = names::number_of(image, head, word);
+    if x == 0 {
         return false;
     }
-    let e = 24 + 16 * n;
-    let mut tab = [false; 1024];
-    mark_names(k, &image[24..e], 0, 0, true, &mut tab);
-    nodes::marked(&tab, x)
+    marks[x - 1]
 }
 
-// Whether w is a known asset.
-pub fn is_known_asset(image: &[u8], n: usize, m: usize, w: &[u8]) -> bool
-    requires { ⌜ Header (now image) n m ⌝ }
-    ensures { λ r. ⌜ r ≡ isKnownAsset (tree (now (image .entry))) (now (w .entry)) ⌝ }
+// Whether a word is a state name.
+pub fn is_state(image: &[u8], head: Image, word: &[u8]) -> bool
+    requires { ⌜ Admitted (now image) head ⌝ }
+    ensures { λ r. ⌜ r ≡ isState (tree (old image)) (old word) ⌝ }
 {
-    if equal(w, b"QTOV") {
+    let mut state = [false; 1024];
+    mark_state(nodes::area(image, head), &mut state);
+    is_marked(image, head, word, &state)
+}
+
+// Whether a word is a declared asset.
+pub fn is_declared_asset(image: &[u8], head: Image, word: &[u8]) -> bool
+    requires { ⌜ Admitted (now image) head ⌝ }
+    ensures { λ r. ⌜ r ≡ isDeclaredAsset (tree (old image)) (old word) ⌝ }
+{
+    let mut declared = [false; 1024];
+    mark_declared(nodes::area(image, head), &mut declared);
+    is_marked(image, head, word, &declared)
+}
+
+// Whether a word is a known asset: `QTOV` is one even where it is no name of the image.
+pub fn is_known_asset(image: &[u8], head: Image, word: &[u8]) -> bool
+    requires { ⌜ Admitted (now image) head ⌝ }
+    ensures { λ r. ⌜ r ≡ isKnownAsset (tree (old image)) (old word) ⌝ }
+{
+    if names::equal(word, b"QTOV") {
         return true;
     }
-    let x = number_of(image, n, m, w);
-    if x < 1 {
-        return false;
-    }
-    let q = number_of(image, n, m, b"Q_Asset");
-    let e = 24 + 16 * n;
-    let mut tab = [false; 1024];
-    mark_names(2, &image[24..e], 0, 0, true, &mut tab);
-    mark_inner(q, &image[24..e], 0, 0, &mut tab);
-    nodes::marked(&tab, x)
-}
-
-// Whether the callee of the Call c is a Field of a word that the table marks.
-pub fn calls_field(part: &[u8], b: usize, c: usize, table: &[bool]) -> bool
-    requires { ⌜ Words (now part) b (now table) × In (now part) b c × (kindOf (now part) (c - b) ≡ 43) ⌝ }
-    ensures { λ r. ⌜ ((T : Words (now (part .entry)) b (now (table .entry))) → r ≡ isField (treeOf (T .view)) (T .words) (c + 1)) ⌝ }
-{
-    if nodes::kind(part, b, c + 1) != 42 {
-        return false;
-    }
-    let f = nodes::end(part, b, c + 2);
-    nodes::marked(table, nodes::name(part, b, f))
-}
-
-// The mark of the name w, if the image has one.
-pub fn mark_word(image: &[u8], n: usize, m: usize, w: &[u8], tab: &mut [bool])
-    requires { ⌜ Header (now image) n m × (length (now tab) ≡ 1024) ⌝ }
-    ensures { λ _. ⌜ (length (now (tab .exit)) ≡ 1024) × ((P : List ℕ → Bool) → Marks (now (image .entry)) P (now (tab .entry))
-        → Marks (now (image .entry)) (λ v. either (P v) (same v (now (w .entry)))) (now (tab .exit))) ⌝ }
-{
-    let x = number_of(image, n, m, w);
-    if 0 < x {
-        nodes::mark(tab, x, true);
-    }
+    let mut known = [false; 1024];
+    mark_known(image, head, &mut known);
+    is_marked(image, head, word, &known)
 }

@@ -1,8 +1,14 @@
 pub mod Names
 pub mod Parts
+pub mod Fall
+pub mod Ranges
+pub mod Shapes
 pub mod Marking
 pub mod Turns
-pub mod Down
-pub mod Shapes
-pub mod Ranges
+pub mod Heads
+pub mod Fields
+pub mod Spans
+pub mod Flat
 pub mod Children
+pub mod Walks
+pub mod Steps

@@ -1,17 +1,14 @@
 -- A loop that sets marks, or takes them off: after the nodes from `from` up to p, that was done for the names that the test G finds there.
 use Prim.Native.Nat.{ℕ, zero, suc, _+_, _-_, _<_, _≤_}
 use mathlib.Core.Path.{_≡_, refl, ap, _∙_, sym}
-use mathlib.Core.Bool.{Bool, true, false, not}
-use mathlib.Core.List.{List, [], _∷_}
+use mathlib.Core.Bool.{Bool, true, false}
+use mathlib.Core.List.{List}
 use native.Mathlib.Nat.{sub-self}
-use native.Mathlib.Numerals.{add-one}
 use native.Mathlib.Omega.{arith}
-use lib.ListN.{length}
-use Rattle.image.specs.Pick.{pick, both}
 use Rattle.rules.specs.Sweep.{either, some, also, has}
 use Rattle.rules.specs.Tree.{Tree}
 use Rattle.rules.specs.Vocabulary.{someBelow}
-use Rattle.nodes.specs.Marks.{Marks, marking}
+use Rattle.nodes.specs.Marks.{Marks, marking, Turned}
 use Rattle.nodes.proofs.Names.{marks-as, either-false, both-true}
 
 some-none : (p : ℕ → Bool) (a : ℕ) → some p a (a - a) ≡ false
@@ -52,6 +49,7 @@ some-later p a b e l h f =
 
 -- one test after another, and none
 marking-twice : (on a b c : Bool) → marking on (marking on a b) c ≡ marking on a (either b c)
+unfolding marking
 marking-twice true true b c = refl
 marking-twice true false b c = refl
 marking-twice false true true c = refl
@@ -59,43 +57,40 @@ marking-twice false true false c = refl
 marking-twice false false b c = refl
 
 pub marking-none : (on a : Bool) → marking on a false ≡ a
+unfolding marking
 marking-none true a = either-false a
 marking-none false a = both-true a
 
--- whichever x the nodes are seen by, with the image of x
+-- The invariant of every loop that marks: the nodes from `from` up to p have been asked, whichever x the nodes are seen by, with the image of x.
 pub record Marking (on : Bool) {X : Type 0} (image : X → List ℕ) (G : X → List ℕ → ℕ → Bool) (from to : ℕ) (r₀ r : List Bool) (p : ℕ) : Type 0 where
   pub low : from ≤ p
   pub high : p ≤ to
-  pub size : length r ≡ 1024
-  pub marks : (x : X) (P : List ℕ → Bool) → Marks (image x) P r₀ → Marks (image x) (λ w. marking on (P w) (some (G x w) from (p - from))) r
+  pub marks : Turned on image (λ x w. some (G x w) from (p - from)) r₀ r
 
 module _ {on : Bool} {X : Type 0} {image : X → List ℕ} {G : X → List ℕ → ℕ → Bool} {from to : ℕ} {r₀ : List Bool} where
-  pub marking-starts : from ≤ to → length r₀ ≡ 1024 → Marking on image G from to r₀ r₀ from
-  marking-starts h l = record {
+  pub marking-starts : from ≤ to → Marking on image G from to r₀ r₀ from
+  marking-starts h = record {
     low = omega arith;
     high = h;
-    size = l;
     marks = λ x P M. marks-as (λ w. sym (ap (marking on (P w)) (some-none (G x w) from) ∙ marking-none on (P w))) M;
   }
 
   -- on to q, past nodes where the test fails
-  pub marking-on : {r r′ : List Bool} {p q : ℕ} → Marking on image G from to r₀ r p → p < q → q ≤ to → ((x : X) (w : List ℕ) (j : ℕ) → p < j → j < q → G x w j ≡ false) → length r′ ≡ 1024
-      → ((x : X) (P : List ℕ → Bool) → Marks (image x) P r → Marks (image x) (λ w. marking on (P w) (G x w p)) r′) → Marking on image G from to r₀ r′ q
-  marking-on {r} {r′} {p} {q} m h g z l f = record {
+  pub marking-on : {r r′ : List Bool} {p q : ℕ} → Marking on image G from to r₀ r p → Turned on image (λ x w. G x w p) r r′
+      → p < q → q ≤ to → ((x : X) (w : List ℕ) (j : ℕ) → p < j → j < q → G x w j ≡ false) → Marking on image G from to r₀ r′ q
+  marking-on {r} {r′} {p} {q} m f h g z = record {
     low = let i = m .low in omega arith;
     high = g;
-    size = l;
     marks = λ x P M.
         marks-as
         (λ w. marking-twice on (P w) (some (G x w) from (p - from)) (G x w p) ∙ ap (marking on (P w)) (sym (some-on (G x w) from p q (m .low) h (z x w))))
         (f x (λ w. marking on (P w) (some (G x w) from (p - from))) (m .marks x P M));
   }
 
-  pub marking-again : {r r′ : List Bool} {p : ℕ} → Marking on image G from to r₀ r p → p < to → length r′ ≡ 1024
-      → ((x : X) (P : List ℕ → Bool) → Marks (image x) P r → Marks (image x) (λ w. marking on (P w) (G x w p)) r′) → Marking on image G from to r₀ r′ (p + 1)
-  marking-again m h l f = marking-on m (omega arith) (omega arith) (λ x w j a c. absurd (omega arith)) l f
+  pub marking-again : {r r′ : List Bool} {p : ℕ} → Marking on image G from to r₀ r p → Turned on image (λ x w. G x w p) r r′ → p < to → Marking on image G from to r₀ r′ (p + 1)
+  marking-again m f h = marking-on m f (omega arith) (omega arith) (λ x w j a c. absurd (omega arith))
 
-  pub marking-done : {r : List Bool} {p : ℕ} → Marking on image G from to r₀ r p → to ≤ p → (x : X) (P : List ℕ → Bool) → Marks (image x) P r₀ → Marks (image x) (λ w. marking on (P w) (some (G x w) from (to - from))) r
+  pub marking-done : {r : List Bool} {p : ℕ} → Marking on image G from to r₀ r p → to ≤ p → Turned on image (λ x w. some (G x w) from (to - from)) r₀ r
   marking-done {r} {p} m h x P M = let i = m .high in let e : p ≡ to = omega arith in rw e at (m .marks x P M)
 
 -- a marking sweep over a range is what stands below its node

@@ -1,15 +1,15 @@
 -- Numbers of names: in range where a node carries one; and a table of marks, name by name.
 use Prim.Native.Nat.{ℕ, zero, suc, _+_, _*_, _-_, _<_, _≤_}
 use mathlib.Core.Path.{_≡_, refl, ap, _∙_, sym}
-use mathlib.Core.Bool.{Bool, true, false, not, true≢false}
+use mathlib.Core.Bool.{Bool, true, false, not}
 use mathlib.Core.List.{List}
-use mathlib.Core.Logic.{_⊎_, inl, inr, ⊎-elim}
+use mathlib.Core.Logic.{_⊎_, ⊎-elim}
 use native.Mathlib.Omega.{arith}
-use borrow.Author.Tests.{leb-true, eq-eqb, eqb-true, ne-eqb}
-use lib.Dec.{eqb, ltb, leb, eqb·suc-zero}
-use lib.ListN.{length, getD, set, replicate, length-set, length-replicate, getD-replicate}
+use borrow.Author.Tests.{leb-true, ne-eqb}
+use lib.Dec.{eqb, leb, eqb·suc-zero}
+use lib.ListN.{getD, set, replicate, length-set, length-replicate, getD-replicate}
 use lib.Seq.{getD-set-same, getD-set-other}
-use Rattle.image.specs.Pick.{pick, both, every}
+use Rattle.image.specs.Pick.{pick, both}
 use Rattle.image.specs.Node.{half, kindOf, nameOf, endOf}
 use Rattle.image.specs.Text.{namesOk, formOf, textOf}
 use Rattle.image.specs.Tree.{treeOk, nodeOk, nameFits, carries}
@@ -98,6 +98,7 @@ marks-as {s} f M = record { size = M .size; mark = λ x l h. M .mark x l h ∙ f
 
 -- the mark of name y is set or taken off: so it is for the bytes that it has
 pub marks-set : (on : Bool) (s : List ℕ) (P : List ℕ → Bool) (r : List Bool) (y : ℕ) → refusal s ≡ 0 → 1 ≤ y → y ≤ nameCount s → Marks s P r → Marks s (λ w. marking on (P w) (same (word s y) w)) (set r (y - 1) on)
+unfolding marking
 marks-set on s P r y e l h M = record { size = length-set r (y - 1) on ∙ M .size; mark = at-name }
   where
     hit : (on b : Bool) → b ≡ true → (a : Bool) → on ≡ marking on a b

@@ -1,11 +1,11 @@
 -- Parts of the node area show the tree of the whole: the whole area, a part of a part, and what each node of a part is.
 use Prim.Native.Nat.{ℕ, _+_, _*_, _-_, _<_, _≤_}
-use mathlib.Core.Path.{_≡_, refl, ap, _∙_, sym}
+use mathlib.Core.Path.{_≡_, ap, _∙_}
 use mathlib.Core.Bool.{Bool, false}
 use mathlib.Core.List.{List}
 use mathlib.Core.Logic.{_⊎_}
 use native.Mathlib.Omega.{arith}
-use lib.ListN.{length, getD}
+use lib.ListN.{getD}
 use Rattle.image.specs.Node.{kindOf, nameOf, endOf}
 use Rattle.image.specs.Text.{slice}
 use Rattle.image.specs.Admit.{refusal, nodeCount, nameCount, nodesOf}
@@ -14,7 +14,7 @@ use Rattle.image.proofs.Given.{given}
 use Rattle.image.proofs.Nest.{nests}
 use Rattle.image.proofs.Lent.{lent-kind, lent-end, lent-name, lent-bytes}
 use Rattle.rules.specs.Tree.{tree}
-use Rattle.nodes.specs.Shown.{Shown, View, In, treeOf, number, word}
+use Rattle.nodes.specs.Shown.{Shown, View, In, treeOf, number}
 use Rattle.nodes.specs.Marks.{Marks}
 use Rattle.nodes.proofs.Names.{in-range}
 
@@ -55,7 +55,7 @@ module _ {part : List ℕ} {b : ℕ} (W : View part b) where
   inside i = let u = W .shown .bytes in let v = W .shown .low in omega arith
 
   pub there : {p : ℕ} → b ≤ p → p < W .upto → In part b p
-  there l h = let u = W .shown .bytes in (l, omega arith)
+  there l h = let u = W .shown .bytes in let f = few in (l, omega arith, omega arith)
 
   -- a node ends past itself, and in the part
   pub past : {p : ℕ} → In part b p → (p < treeOf W .end p) × (treeOf W .end p ≤ W .upto)
@@ -72,15 +72,12 @@ module _ {part : List ℕ} {b : ℕ} (W : View part b) where
     number-is = W .shown .numbers p (i .0) (inside i)
 
     -- the number of a Name or an Ident
-    pub ranged : (treeOf W .kind p ≡ 23) ⊎ (treeOf W .kind p ≡ 35) → (1 ≤ nameOf part (p - b)) × (nameOf part (p - b) ≤ nameCount (W .image)) × (nameCount (W .image) ≤ 1024)
-    ranged h =
-        let r = in-range (W .image) (W .shown .admitted) p (let u = inside i in let v = W .shown .high in omega arith) h in
-        let n = number-is in
-        (omega arith, omega arith, r .2)
+    pub ranged : (treeOf W .kind p ≡ 23) ⊎ (treeOf W .kind p ≡ 35) → (1 ≤ number (W .image) p) × (number (W .image) p ≤ nameCount (W .image)) × (nameCount (W .image) ≤ 1024)
+    ranged h = in-range (W .image) (W .shown .admitted) p (let u = inside i in let v = W .shown .high in omega arith) h
 
-    -- what a table says of the name of a Name or an Ident
-    pub tells : {P : List ℕ → Bool} {r : List Bool} → Marks (W .image) P r → (treeOf W .kind p ≡ 23) ⊎ (treeOf W .kind p ≡ 35) → getD r (nameOf part (p - b) - 1) false ≡ P (treeOf W .text p)
-    tells {P} M h = let r = ranged h in M .mark _ (r .0) (r .1) ∙ ap (λ (x : ℕ). P (word (W .image) x)) number-is
+    -- what a table says of the word of a Name or an Ident
+    pub tells : {P : List ℕ → Bool} {r : List Bool} → Marks (W .image) P r → (treeOf W .kind p ≡ 23) ⊎ (treeOf W .kind p ≡ 35) → getD r (number (W .image) p - 1) false ≡ P (treeOf W .text p)
+    tells {P} M h = let r = ranged h in M .mark _ (r .0) (r .1)
 
 -- the part from a node f of node p's range to p's end holds the whole of each node in it
 pub lent-shown : {part : List ℕ} {b p f : ℕ} (W : View part b) → In part b p → p < f → f ≤ treeOf W .end p → Shown (W .image) (slice part (16 * (f - b)) (16 * (treeOf W .end p - b))) f (treeOf W .end p)
@@ -93,13 +90,3 @@ lent-shown {part} {b} {p} {f} W i g h =
 
 abbrev pub lent-below : {part : List ℕ} {b p f : ℕ} (W : View part b) → In part b p → p < f → f ≤ treeOf W .end p → View (slice part (16 * (f - b)) (16 * (treeOf W .end p - b))) f
 lent-below {part} {b} {p} {f} W i g h = record { image = W .image; upto = treeOf W .end p; shown = lent-shown W i g h }
-
-pub lent-in : (part : List ℕ) (b f e x : ℕ) → b ≤ f → f ≤ x → x < e → 16 * (e - b) ≤ length part → In (slice part (16 * (f - b)) (16 * (e - b))) f x
-lent-in part b f e x l h g k =
-    let v = lent-bytes part (f - b) (e - b) (omega arith) k in
-    let w : e - b - (f - b) ≡ e - f = omega arith in
-    (h, omega arith)
-
--- the contract stands in a part that starts at it
-pub root-in : {part : List ℕ} {b : ℕ} → View part b → b ≡ 0 → 16 ≤ length part → In part b 0
-root-in W e h = (omega arith, omega arith)

@@ -1,30 +1,23 @@
 -- What stands where in a lent part: the Name that a node begins with, the nodes of a Field and a Call, and what a walk by `next` leaves out.
-use Prim.Native.Nat.{ℕ, zero, suc, _+_, _*_, _-_, _%_, _<_, _≤_}
-use mathlib.Core.Path.{_≡_, refl, ap, _∙_, sym, subst}
-use mathlib.Core.Bool.{Bool, true, false, not, true≢false}
+use Prim.Native.Nat.{ℕ, _+_, _*_, _%_, _<_, _≤_}
+use mathlib.Core.Path.{_≡_, refl, ap, _∙_, sym}
+use mathlib.Core.Bool.{Bool, true, false, true≢false}
 use mathlib.Core.List.{List, [], _∷_}
-use mathlib.Core.Logic.{_⊎_, inl, inr, ⊎-elim}
 use native.Mathlib.Omega.{arith}
-use borrow.Author.Tests.{eqb-true, eq-eqb, ne-eqb, ltb-true, ltb-false, lt-ltb}
-use lib.Dec.{ltb, eqb, leb}
-use lib.ListN.{getD}
+use borrow.Author.Tests.{eqb-true, lt-ltb}
+use lib.Dec.{eqb}
 use Rattle.image.specs.Pick.{pick, both, every}
-use Rattle.image.specs.Node.{kindOf, endOf}
-use Rattle.image.specs.Table.{partAt, rowOf, familyOf}
+use Rattle.image.specs.Table.{partAt, rowOf}
 use Rattle.image.specs.Admit.{nodesOf, nodeCount}
 use Rattle.image.proofs.Every.{every-at, both-left, both-right}
 use Rattle.image.proofs.Shape.{Child, first-of, family-is, name-kind, field-at}
-use Rattle.image.proofs.Given.{given}
 use Rattle.image.proofs.Nest.{nests}
 use Rattle.rules.specs.Sweep.{has, either}
-use Rattle.rules.specs.Tree.{tree}
-use Rattle.rules.specs.Vocabulary.{Below}
-use Rattle.rules.specs.All.{Flat, items, parts}
-use Rattle.rules.proofs.Reflect.{tells-has}
-use Rattle.rules.proofs.Admitted.{admitted}
+use Rattle.rules.specs.All.{items, parts}
+use Rattle.rules.proofs.Admitted.{no-item-below, no-part-below}
 use Rattle.nodes.specs.Shown.{View, In, treeOf}
 use Rattle.nodes.specs.First.{nameFirst, NameFirst}
-use Rattle.nodes.proofs.Parts.{inside, there, past, formed, kind-is, end-is}
+use Rattle.nodes.proofs.Parts.{inside, there, past, formed}
 
 -- the rows of some kinds begin with one part
 begins : List ℕ → ℕ → ℕ → Bool
@@ -81,9 +74,16 @@ module _ {part : List ℕ} {b p : ℕ} (W : View part b) (i : In part b p) where
       let w = i .0 in
       (there W (omega arith) (omega arith), there W (omega arith) (omega arith), f .name-is)
 
+  -- its base, which is p + 1
+  pub field-base : (x : ℕ) → p ≡ x + 1 → treeOf W .kind p ≡ 42 → In part b (x + 2)
+  field-base x e k = let z : p + 1 ≡ x + 2 = omega arith in rw z at (field-name k .0)
+
   -- a node within p's range stands in the part too
   pub within : {q : ℕ} → p < q → q < treeOf W .end p → In part b q
   within l h = let g = past W i .1 in let w = i .0 in there W (omega arith) (omega arith)
+
+  pub within-or : {q : ℕ} → p ≤ q → q < treeOf W .end p → In part b q
+  within-or l h = let g = past W i .1 in let w = i .0 in there W (omega arith) (omega arith)
 
   pub ends-within : {q : ℕ} → p < q → q < treeOf W .end p → (q < treeOf W .end q) × (treeOf W .end q ≤ treeOf W .end p)
   ends-within {q} l h =
@@ -91,63 +91,17 @@ module _ {part : List ℕ} {b p : ℕ} (W : View part b) (i : In part b p) where
       let v = W .shown .high in
       (past W (within l h) .0, nests (nodesOf (W .image)) (nodeCount (W .image)) (formed W) p q (omega arith) l h)
 
--- a walk that goes past the whole of each node of kind ks, none of which holds another: from p, within the range of node a, it moves on, stays within, and leaves out none of them
-pub record Beyond (ks : List ℕ) {part : List ℕ} {b : ℕ} (W : View part b) (a p r : ℕ) : Type 0 where
-  pub on : p < r
-  pub within-end : r ≤ treeOf W .end a
-  pub leaves : (j : ℕ) → p < j → j < r → has (treeOf W .kind j) ks ≡ false
+-- a walk from child to child leaves out no item of the contract, and no part of an item
+module _ {part : List ℕ} {b : ℕ} (W : View part b) where
+  pub no-item : {p : ℕ} → In part b p → 0 < p → (j : ℕ) → p < j → j < treeOf W .end p → has (treeOf W .kind j) items ≡ false
+  no-item {p} i z j l h = let u = inside W i in let v = W .shown .high in no-item-below (W .image) (W .shown .admitted) p j z (omega arith) l h
 
-module _ (ks : List ℕ) {part : List ℕ} {b : ℕ} (W : View part b) (flat : Flat (treeOf W) ks) where
-  none-below : {p : ℕ} → In part b p → 0 < p → has (treeOf W .kind p) ks ≡ true → (j : ℕ) → p < j → j < treeOf W .end p → has (treeOf W .kind j) ks ≡ false
-  none-below {p} i z k j l h = go (has (treeOf W .kind j) ks) refl
-    where
-      go : (x : Bool) → has (treeOf W .kind j) ks ≡ x → has (treeOf W .kind j) ks ≡ false
-      go false e = e
-      go true e =
-          let u = inside W i in
-          let v = W .shown .high in
-          let r = formed W .root-end in
-          absurd
-          (flat p j
-          (record { after = z; inside = omega arith; kind = tells-has _ ks .so k })
-          (record { after = l; inside = h; kind = tells-has _ ks .so e }))
-
-  -- the same from a node of the part, whatever holds it
-  pub step-is : {p r : ℕ} → In part b p → 0 < p → r ≡ pick (has (kindOf part (p - b)) ks) (endOf part (p - b)) (p + 1)
-      → (p < r) × (r ≤ W .upto) × ((r ≡ treeOf W .end p) ⊎ (r ≡ p + 1)) × ((j : ℕ) → p < j → j < r → has (treeOf W .kind j) ks ≡ false)
-  step-is {p} {r} i z e =
-      go (has (treeOf W .kind p) ks) refl
-      (e ∙ ap (λ (k : ℕ). pick (has k ks) (endOf part (p - b)) (p + 1)) (kind-is W i) ∙ ap (λ (k : ℕ). pick (has (treeOf W .kind p) ks) k (p + 1)) (end-is W i))
-    where
-      go : (x : Bool) → has (treeOf W .kind p) ks ≡ x → r ≡ pick (has (treeOf W .kind p) ks) (treeOf W .end p) (p + 1)
-          → (p < r) × (r ≤ W .upto) × ((r ≡ treeOf W .end p) ⊎ (r ≡ p + 1)) × ((j : ℕ) → p < j → j < r → has (treeOf W .kind j) ks ≡ false)
-      go true k d =
-          let q : r ≡ treeOf W .end p = rw k at d in
-          let m = past W i in
-          (omega arith, omega arith, inl q, λ j f g. none-below i z k j f (omega arith))
-      go false k d = let q : r ≡ p + 1 = rw k at d in let m = past W i in (omega arith, omega arith, inr q, λ j f g. absurd (omega arith))
-
-  beyond-is : {a p r : ℕ} → In part b a → a < p → p < treeOf W .end a → r ≡ pick (has (kindOf part (p - b)) ks) (endOf part (p - b)) (p + 1) → Beyond ks W a p r
-  beyond-is {a} {p} {r} i l h e =
-      let t = step-is (within W i l h) (omega arith) e in
-      let m = ends-within W i l h in
-      record { on = t .0; within-end = ⊎-elim (λ (q : r ≡ treeOf W .end p). omega arith) (λ (q : r ≡ p + 1). omega arith) (t .2); leaves = t .3 }
-
--- the walk by `next`, past the parts of items; the walk by `next_item`
-abbrev pub Next : {part : List ℕ} {b : ℕ} (W : View part b) (a p r : ℕ) → Type 0
-Next W a p r = Beyond parts W a p r
-
-pub next-is : {part : List ℕ} {b a p r : ℕ} (W : View part b) → In part b a → a < p → p < treeOf W .end a
-    → r ≡ pick (has (kindOf part (p - b)) parts) (endOf part (p - b)) (p + 1) → Next W a p r
-next-is W i l h e = beyond-is parts W (admitted (W .image) (W .shown .admitted) .parts-flat) i l h e
-
-pub next-here : {part : List ℕ} {b p r : ℕ} (W : View part b) → In part b p → 0 < p → r ≡ pick (has (kindOf part (p - b)) parts) (endOf part (p - b)) (p + 1)
-    → (p < r) × (r ≤ W .upto) × ((j : ℕ) → p < j → j < r → has (treeOf W .kind j) parts ≡ false)
-next-here W i z e = let t = step-is parts W (admitted (W .image) (W .shown .admitted) .parts-flat) i z e in (t .0, t .1, t .3)
-
-pub next-item-is : {part : List ℕ} {b a p r : ℕ} (W : View part b) → In part b a → a < p → p < treeOf W .end a
-    → r ≡ pick (has (kindOf part (p - b)) items) (endOf part (p - b)) (p + 1) → Beyond items W a p r
-next-item-is W i l h e = beyond-is items W (admitted (W .image) (W .shown .admitted) .items-flat) i l h e
+  pub no-part : {a p : ℕ} → In part b a → 0 < a → a < p → p < treeOf W .end a → (j : ℕ) → p < j → j < treeOf W .end p → has (treeOf W .kind j) parts ≡ false
+  no-part {a} {p} i z g k j l h =
+      let u = inside W i in
+      let v = W .shown .high in
+      let y = inside W (within W i g k) in
+      no-part-below (W .image) (W .shown .admitted) a p j z (omega arith) g k (omega arith) l h
 
 -- kinds that are among these: none of them is left out either
 unfoldable pub allIn : List ℕ → List ℕ → Bool
@@ -163,5 +117,13 @@ not-in l k (j ∷ ks) a e = go (eqb k j) refl (not-in l k ks (both-right (has j 
     go false d f = f
     go true d f = absurd (true≢false (sym (both-left (has j l) _ a) ∙ ap (λ (x : ℕ). has x l) (sym (eqb-true k j d)) ∙ e))
 
-pub not-part : (k : ℕ) (ks : List ℕ) → allIn ks parts ≡ true → has k parts ≡ false → has k ks ≡ false
-not-part k ks a e = not-in parts k ks a e
+pub one-in : (k : ℕ) (l : List ℕ) → has k l ≡ true → allIn (k ∷ []) l ≡ true
+unfolding allIn
+one-in k l e = rw e
+
+-- kinds that are items, or parts: a walk from child to child leaves out none of them
+pub skips-items : (ks : List ℕ) → allIn ks items ≡ true → {part : List ℕ} {b p q : ℕ} (W : View part b) → In part b p → 0 < p → q ≡ treeOf W .end p → (j : ℕ) → p < j → j < q → has (treeOf W .kind j) ks ≡ false
+skips-items ks a W i z e j l h = not-in items (treeOf W .kind j) ks a (no-item W i z j l (omega arith))
+
+pub skips-parts : (ks : List ℕ) → allIn ks parts ≡ true → {part : List ℕ} {b p q r : ℕ} (W : View part b) → In part b p → 0 < p → p < q → q < treeOf W .end p → r ≡ treeOf W .end q → (j : ℕ) → q < j → j < r → has (treeOf W .kind j) ks ≡ false
+skips-parts ks a W i z g k e j l h = not-in parts (treeOf W .kind j) ks a (no-part W i z g k j l (omega arith))

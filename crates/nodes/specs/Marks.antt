@@ -1,5 +1,5 @@
 -- A table of one mark for each of 1,024 names, by name number less one: what it says of the bytes of each name.
-use Prim.Native.Nat.{ℕ, _-_, _<_, _≤_}
+use Prim.Native.Nat.{ℕ, _-_, _≤_}
 use mathlib.Core.Path.{_≡_}
 use mathlib.Core.Bool.{Bool, false, not}
 use mathlib.Core.List.{List}
@@ -7,12 +7,28 @@ use lib.ListN.{length, getD}
 use Rattle.image.specs.Admit.{nameCount}
 use Rattle.image.specs.Pick.{pick, both}
 use Rattle.rules.specs.Sweep.{either}
-use Rattle.nodes.specs.Shown.{word}
+use Rattle.records.specs.Words.{Lent, old, new}
+use Rattle.rules.specs.Tree.{Tree}
+use Rattle.nodes.specs.Shown.{View, word, treeOf}
 
 pub record Marks (s : List ℕ) (P : List ℕ → Bool) (r : List Bool) : Type 0 where
   pub size : length r ≡ 1024
   pub mark : (x : ℕ) → 1 ≤ x → x ≤ nameCount s → getD r (x - 1) false ≡ P (word s x)
 
 -- a mark is set, or taken off, where the second test holds
-abbrev pub marking : Bool → Bool → Bool → Bool
+unfoldable pub marking : Bool → Bool → Bool → Bool
 marking on a b = pick on (either a b) (both a (not b))
+
+-- a function that is lent a table sets, or takes off, the marks of the words that G names, whichever x the nodes are seen by
+abbrev pub Turned : Bool → {X : Type 0} → (X → List ℕ) → (X → List ℕ → Bool) → List Bool → List Bool → Type 0
+Turned on {X} image G r r′ = (x : X) (P : List ℕ → Bool) → Marks (image x) P r → Marks (image x) (λ w. marking on (P w) (G x w)) r′
+
+abbrev pub Turns : Bool → {part : List ℕ} {b : ℕ} → (View part b → List ℕ → Bool) → Lent (List Bool) → Type 0
+Turns on G marks = Turned on (λ W. W .image) G (old marks) (new marks)
+
+-- a function that is lent the nodes of an image and a table with no name marked marks the names that P names
+abbrev pub Made : (Tree → List ℕ → Bool) → List ℕ → List Bool → List Bool → Type 0
+Made P nodes r r′ = (W : View nodes 0) → Marks (W .image) (λ w. false) r → Marks (W .image) (P (treeOf W)) r′
+
+abbrev pub Makes : (Tree → List ℕ → Bool) → Lent (List ℕ) → Lent (List Bool) → Type 0
+Makes P nodes marks = Made P (old nodes) (old marks) (new marks)

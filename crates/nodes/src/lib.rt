@@ -1,53 +1,121 @@
-// Nodes read from a part of the node area whose first node is number b; a mark for each name, by its number; the walk down an expression.
+// Nodes read from a part of the node area whose first node is number `base`; a mark for each name; the walk down an expression.
+use image::Image;
 ghost use mathlib.Core.Path.{_≡_};
-ghost use mathlib.Core.Bool.{Bool, true, false};
-ghost use Prim.Native.Nat.{ℕ, _+_, _*_, _-_, _<_, _≤_};
-ghost use lib.ListN.{length, getD, set};
-ghost use Rattle.image.specs.Node.{kindOf, nameOf, endOf};
-ghost use Rattle.image.specs.Pick.{pick};
-ghost use Rattle.rules.specs.Sweep.{has};
-ghost use Rattle.rules.specs.All.{items, parts};
-ghost use Rattle.rules.specs.Tree.{statement};
-ghost use Rattle.rules.specs.Vocabulary.{down};
-ghost use Rattle.nodes.specs.Shown.{View, In, treeOf};
+ghost use mathlib.Core.Bool.{Bool};
+ghost use mathlib.Core.List.{List};
+ghost use Prim.Native.Nat.{ℕ, _+_, _-_, _<_, _≤_};
+ghost use Rattle.image.specs.Admit.{nodeCount};
+ghost use Rattle.rules.specs.Sweep.{has, same, hasWord};
+ghost use Rattle.rules.specs.Tree.{state, type-holders, bodied, statement};
+ghost use Rattle.rules.specs.Vocabulary.{down, isIdent, isField};
+ghost use Rattle.records.specs.Words.{old, new};
+ghost use Rattle.nodes.specs.Shown.{View, In, Shown, Worded, Admitted, treeOf, number};
+ghost use Rattle.nodes.specs.Marks.{Marks, Turns};
 ghost use Rattle.nodes.specs.Past.{takenOff};
-ghost use Rattle.nodes.specs.First.{Starts};
+ghost use Rattle.nodes.specs.First.{Starts, Body};
+ghost use Rattle.nodes.specs.Walk.{onward};
 
-pub fn kind(part: &[u8], b: usize, p: usize) -> usize
-    requires { ⌜ In (now part) b p ⌝ }
-    ensures { λ r. ⌜ r ≡ kindOf (now (part .entry)) (p - b) ⌝ }
+// One mark for each of 1,024 names, by name number less one.
+pub type Marks = [bool; 1024];
+
+// The kinds of document 01 that the passes name.
+pub const ASSET: usize = 2;
+
+pub const STATE: usize = 3;
+
+pub const FIELD_DECL: usize = 4;
+
+pub const EVENT: usize = 5;
+
+pub const GENESIS: usize = 7;
+
+pub const INVARIANT: usize = 8;
+
+pub const ENTRY: usize = 9;
+
+pub const PARAM: usize = 10;
+
+pub const TYPE: usize = 11;
+
+pub const WRITES: usize = 14;
+
+pub const READS: usize = 15;
+
+pub const CONSERVES: usize = 16;
+
+pub const MINTS: usize = 17;
+
+pub const BURNS: usize = 18;
+
+pub const LIMITS: usize = 19;
+
+pub const DENIES: usize = 20;
+
+pub const AFTER: usize = 21;
+
+pub const NAME: usize = 23;
+
+pub const LET: usize = 25;
+
+pub const EMIT: usize = 26;
+
+pub const ASSIGN: usize = 27;
+
+pub const IDENT: usize = 35;
+
+pub const CALLER: usize = 36;
+
+pub const FIELD: usize = 42;
+
+pub const CALL: usize = 43;
+
+// The nodes of an admitted image.
+pub fn area(image: &[u8], head: Image) -> &[u8]
+    requires { ⌜ Admitted (now image) head ⌝ }
+    ensures { λ r. ⌜ Shown (old image) (now r) 0 (nodeCount (old image)) ⌝ }
 {
-    image::kind(part, p - b)
+    let n = head.nodes;
+    let end = 24 + 16 * n;
+    &image[24..end]
 }
 
-pub fn name(part: &[u8], b: usize, p: usize) -> usize
-    requires { ⌜ In (now part) b p ⌝ }
-    ensures { λ r. ⌜ r ≡ nameOf (now (part .entry)) (p - b) ⌝ }
+pub fn kind(nodes: &[u8], base: usize, p: usize) -> usize
+    requires { ⌜ In (now nodes) base p ⌝ }
+    ensures { λ r. ⌜ ((W : View (old nodes) base) → r ≡ treeOf W .kind p) ⌝ }
 {
-    image::name(part, p - b)
+    image::kind(nodes, p - base)
 }
 
-pub fn end(part: &[u8], b: usize, p: usize) -> usize
-    requires { ⌜ In (now part) b p ⌝ }
-    ensures { λ r. ⌜ r ≡ endOf (now (part .entry)) (p - b) ⌝ }
+pub fn end(nodes: &[u8], base: usize, p: usize) -> usize
+    requires { ⌜ In (now nodes) base p ⌝ }
+    ensures { λ r. ⌜ ((W : View (old nodes) base) → r ≡ treeOf W .end p) ⌝ }
 {
-    image::end(part, p - b)
+    image::end(nodes, p - base)
 }
 
-// Whether the name of number x is marked.
-pub fn marked(tab: &[bool], x: usize) -> bool
-    requires { ⌜ (1 ≤ x) × (x ≤ 1024) × (length (now tab) ≡ 1024) ⌝ }
-    ensures { λ r. ⌜ r ≡ getD (now (tab .entry)) (x - 1) false ⌝ }
+pub fn name(nodes: &[u8], base: usize, p: usize) -> usize
+    requires { ⌜ In (now nodes) base p ⌝ }
+    ensures { λ r. ⌜ ((W : View (old nodes) base) → r ≡ number (W .image) p) ⌝ }
 {
-    tab[x - 1]
+    image::name(nodes, p - base)
 }
 
-// Sets the mark of the name of number x, or takes it off.
-pub fn mark(tab: &mut [bool], x: usize, on: bool)
-    requires { ⌜ (1 ≤ x) × (x ≤ 1024) × (length (now tab) ≡ 1024) ⌝ }
-    ensures { λ _. ⌜ now (tab .exit) ≡ set (now (tab .entry)) (x - 1) on ⌝ }
+// Whether the word of node p is marked.
+pub fn is_marked(marks: &Marks, nodes: &[u8], base: usize, p: usize) -> bool
+    requires { ⌜ Worded (now nodes) base p ⌝ }
+    ensures { λ r. ⌜ ((W : View (old nodes) base) (P : List ℕ → Bool) → Marks (W .image) P (old marks) → r ≡ P (treeOf W .text p)) ⌝ }
 {
-    tab[x - 1] = on;
+    let x = name(nodes, base, p);
+    marks[x - 1]
+}
+
+// Sets the mark of the word of node p, or takes it off.
+pub fn mark(marks: &mut Marks, nodes: &[u8], base: usize, p: usize, on: bool)
+    requires { ⌜ Worded (now nodes) base p ⌝ }
+    ensures { λ _. ⌜ Turns on (λ (W : View (old nodes) base). same (treeOf W .text p)) marks ⌝ }
+{
+    let x = name(nodes, base, p);
+    marks[x - 1] = on;
 }
 
 // What is taken off on the way down an expression: Checked and Wrapping, Fields, or all three.
@@ -80,14 +148,14 @@ fn is_past(past: Past, k: usize) -> bool
 }
 
 // Down from x, past what is taken off, to the first node that is not; the end of x if there is none.
-pub fn bottom(past: Past, part: &[u8], b: usize, x: usize) -> usize
-    requires { ⌜ View (now part) b × In (now part) b x ⌝ }
-    ensures { λ r. ⌜ (x ≤ r) × ((W : View (now (part .entry)) b) → r ≡ down (treeOf W) (takenOff past) x) ⌝ }
+pub fn down(past: Past, nodes: &[u8], base: usize, x: usize) -> usize
+    requires { ⌜ View (now nodes) base × In (now nodes) base x ⌝ }
+    ensures { λ r. ⌜ (x ≤ r) × ((W : View (old nodes) base) → r ≡ down (treeOf W) (takenOff past) x) ⌝ }
 {
-    let e = end(part, b, x);
+    let to = end(nodes, base, x);
     let mut r = x;
-    while r < e {
-        if !is_past(past, kind(part, b, r)) {
+    while r < to {
+        if !is_past(past, kind(nodes, base, r)) {
             return r;
         }
         r += 1;
@@ -95,48 +163,49 @@ pub fn bottom(past: Past, part: &[u8], b: usize, x: usize) -> usize
     r
 }
 
-// Whether nodes of kind k hold no others of these kinds: Invariants, parameters, clauses and statements.
-fn is_part(k: usize) -> bool
-    ensures { λ r. ⌜ r ≡ has k parts ⌝ }
+// The next node of a walk over the items and the fields of a contract: into a State, past any other node.
+pub fn next_declaration(nodes: &[u8], base: usize, p: usize) -> usize
+    requires { ⌜ In (now nodes) base p ⌝ }
+    ensures { λ r. ⌜ ((W : View (old nodes) base) → r ≡ onward (treeOf W) state p) ⌝ }
+{
+    if kind(nodes, base, p) == STATE {
+        return p + 1;
+    }
+    end(nodes, base, p)
+}
+
+// The kinds that may hold a Type.
+fn is_type_holder(k: usize) -> bool
+    ensures { λ r. ⌜ r ≡ has k type-holders ⌝ }
 {
     match k {
-        8 => true,
-        10 => true,
-        14..=21 => true,
-        24..=28 => true,
+        STATE => true,
+        FIELD_DECL => true,
+        ENTRY => true,
+        PARAM => true,
+        TYPE => true,
         _ => false,
     }
 }
 
-// The node after p; after the whole of p where p is a part. From an entry's Name on these are its children.
-pub fn next(part: &[u8], b: usize, p: usize) -> usize
-    requires { ⌜ (p < 65536) × In (now part) b p ⌝ }
-    ensures { λ r. ⌜ r ≡ pick (has (kindOf (now (part .entry)) (p - b)) parts) (endOf (now (part .entry)) (p - b)) (p + 1) ⌝ }
+// The next node of a walk over the types of a contract: into what may hold one, past any other node.
+pub fn next_type(nodes: &[u8], base: usize, p: usize) -> usize
+    requires { ⌜ In (now nodes) base p ⌝ }
+    ensures { λ r. ⌜ ((W : View (old nodes) base) → r ≡ onward (treeOf W) type-holders p) ⌝ }
 {
-    if is_part(kind(part, b, p)) {
-        return end(part, b, p);
+    if is_type_holder(kind(nodes, base, p)) {
+        return p + 1;
     }
-    p + 1
+    end(nodes, base, p)
 }
 
-// The node after p; after the whole of p where p is a Genesis, an Invariant or an Entry.
-pub fn next_item(part: &[u8], b: usize, p: usize) -> usize
-    requires { ⌜ (p < 65536) × In (now part) b p ⌝ }
-    ensures { λ r. ⌜ r ≡ pick (has (kindOf (now (part .entry)) (p - b)) items) (endOf (now (part .entry)) (p - b)) (p + 1) ⌝ }
-{
-    if is_item(kind(part, b, p)) {
-        return end(part, b, p);
-    }
-    p + 1
-}
-
-fn is_item(k: usize) -> bool
-    ensures { λ r. ⌜ r ≡ has k items ⌝ }
+// Genesis and Entry, the items that hold statements.
+pub fn is_bodied(k: usize) -> bool
+    ensures { λ r. ⌜ r ≡ has k bodied ⌝ }
 {
     match k {
-        7 => true,
-        8 => true,
-        9 => true,
+        GENESIS => true,
+        ENTRY => true,
         _ => false,
     }
 }
@@ -150,18 +219,50 @@ pub fn is_statement(k: usize) -> bool
     }
 }
 
-// The first statement of the entry p; the entry's end if it has none.
-pub fn first_statement(part: &[u8], b: usize, p: usize) -> usize
-    requires { ⌜ View (now part) b × In (now part) b p ⌝ }
-    ensures { λ r. ⌜ ((W : View (now (part .entry)) b) → Starts W p r) ⌝ }
+// The first statement of an entry, found child by child; the entry's end if it has none.
+pub fn first_statement(nodes: &[u8], base: usize, entry: usize) -> usize
+    requires { ⌜ View (now nodes) base × In (now nodes) base entry × (0 < entry) ⌝ }
+    ensures { λ r. ⌜ ((W : View (old nodes) base) → Starts W entry r) ⌝ }
 {
-    let e = end(part, b, p);
-    let mut q = p + 1;
-    while q < e {
-        if is_statement(kind(part, b, q)) {
-            return q;
+    let to = end(nodes, base, entry);
+    let mut p = entry + 1;
+    while p < to {
+        if is_statement(kind(nodes, base, p)) {
+            return p;
         }
-        q += 1;
+        p = end(nodes, base, p);
     }
-    q
+    p
+}
+
+// The statements of an entry, from the first one on, as their own part of the node area.
+pub fn statements(nodes: &[u8], base: usize, entry: usize, first: usize) -> &[u8]
+    requires { ⌜ Body (now nodes) base entry first ⌝ }
+    ensures { λ r. ⌜ ((W : View (old nodes) base) → Shown (W .image) (now r) first (treeOf W .end entry)) ⌝ }
+{
+    let from = 16 * (first - base);
+    let to = 16 * (end(nodes, base, entry) - base);
+    &nodes[from..to]
+}
+
+// Whether x is an Ident of a word that is marked.
+pub fn is_ident(nodes: &[u8], base: usize, x: usize, marks: &Marks) -> bool
+    requires { ⌜ View (now nodes) base × In (now nodes) base x ⌝ }
+    ensures { λ r. ⌜ ((W : View (old nodes) base) (ws : List (List ℕ)) → Marks (W .image) (λ w. hasWord w ws) (old marks) → r ≡ isIdent (treeOf W) ws x) ⌝ }
+{
+    if kind(nodes, base, x) != IDENT {
+        return false;
+    }
+    is_marked(marks, nodes, base, x)
+}
+
+// Whether x is a Field of a word that is marked.
+pub fn is_field(nodes: &[u8], base: usize, x: usize, marks: &Marks) -> bool
+    requires { ⌜ View (now nodes) base × In (now nodes) base x ⌝ }
+    ensures { λ r. ⌜ ((W : View (old nodes) base) (ws : List (List ℕ)) → Marks (W .image) (λ w. hasWord w ws) (old marks) → r ≡ isField (treeOf W) ws x) ⌝ }
+{
+    if kind(nodes, base, x) != FIELD {
+        return false;
+    }
+    is_marked(marks, nodes, base, end(nodes, base, x + 1))
 }

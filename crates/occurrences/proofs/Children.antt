@@ -12,9 +12,9 @@ use Rattle.rules.specs.Sweep.{also, some}
 use Rattle.rules.specs.Tree.{Tree}
 use Rattle.rules.specs.Vocabulary.{isChild, someArgument}
 use Rattle.rules.proofs.Reflect.{tells-isChild}
-use Rattle.nodes.specs.Shown.{View, In, treeOf}
-use Rattle.nodes.proofs.Shapes.{within, ends-within}
-use Rattle.nodes.proofs.Marking.{some-later}
+use Rattle.linear_nodes.specs.Shown.{View, In, treeOf}
+use Rattle.linear_nodes.proofs.Shapes.{within, ends-within}
+use Rattle.linear_nodes.proofs.Marking.{some-later}
 use Rattle.occurrences.specs.Flags.{Flagged}
 use Rattle.occurrences.proofs.Flags.{flagged-as}
 

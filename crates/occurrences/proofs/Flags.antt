@@ -14,8 +14,8 @@ use Rattle.image.proofs.Marked.{eq-or-ne}
 use Rattle.rules.specs.Sweep.{either, some, also, has}
 use Rattle.rules.specs.Tree.{Tree}
 use Rattle.rules.specs.Vocabulary.{someBelow}
-use Rattle.nodes.proofs.Names.{either-true, either-false}
-use Rattle.nodes.proofs.Marking.{some-on}
+use Rattle.linear_nodes.proofs.Names.{either-true, either-false}
+use Rattle.linear_nodes.proofs.Marking.{some-on}
 use Rattle.occurrences.specs.Flags.{Flagged}
 
 either-assoc : (a b c : Bool) → either (either a b) c ≡ either a (either b c)

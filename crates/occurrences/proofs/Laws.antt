@@ -14,10 +14,10 @@ use Rattle.rules.specs.Tree.{Tree, assign, call, statement, peels}
 use Rattle.rules.specs.Words.{readers}
 use Rattle.rules.specs.Vocabulary.{someBelow, someCall, down, atBottom}
 use Rattle.rules.specs.Linear.{isCounted}
-use Rattle.nodes.specs.Shown.{View, In, treeOf}
-use Rattle.nodes.proofs.Parts.{inside, past, there, formed}
-use Rattle.nodes.proofs.Shapes.{allIn, not-in}
-use Rattle.nodes.proofs.Marking.{some-later}
+use Rattle.linear_nodes.specs.Shown.{View, In, treeOf}
+use Rattle.linear_nodes.proofs.Parts.{inside, past, there, formed}
+use Rattle.linear_nodes.proofs.Shapes.{allIn, not-in}
+use Rattle.linear_nodes.proofs.Marking.{some-later}
 use Rattle.occurrences.specs.Flags.{Flagged, isValue, peelsTo, isConsumed, countsIn}
 use Rattle.occurrences.proofs.Flags.{flagged-then}
 

@@ -7,8 +7,8 @@ use Rattle.rules.specs.Sweep.{has, hasWord}
 use Rattle.rules.specs.Tree.{Tree, tree, entry, statement}
 use Rattle.rules.specs.Words.{readers}
 use Rattle.rules.specs.Vocabulary.{Below}
-use Rattle.nodes.specs.Shown.{View, treeOf}
-use Rattle.nodes.specs.Marks.{Marks}
+use Rattle.linear_nodes.specs.Shown.{View, treeOf}
+use Rattle.linear_nodes.specs.Marks.{Marks}
 
 abbrev pub isReader : List ℕ → Bool
 isReader w = hasWord w readers

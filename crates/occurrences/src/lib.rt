@@ -1,7 +1,7 @@
 // Counted occurrences ("Linear" of document 01): which nodes an Assign takes as its bare value, or a Call as an argument.
 use image::Cursor;
 use image::Step;
-use nodes::Past;
+use linear_nodes::Past;
 ghost use mathlib.Core.Path.{_≡_};
 ghost use mathlib.Core.Bool.{true, false};
 ghost use Prim.Native.Nat.{ℕ, _+_, _-_, _<_};
@@ -11,9 +11,9 @@ ghost use Rattle.rules.specs.Sweep.{either, also, has};
 ghost use Rattle.rules.specs.Tree.{assign, call, statement};
 ghost use Rattle.rules.specs.Vocabulary.{isField};
 ghost use Rattle.rules.specs.Linear.{isCounted};
-ghost use Rattle.nodes.specs.Shown.{View, In, treeOf};
+ghost use Rattle.linear_nodes.specs.Shown.{View, In, treeOf};
 ghost use Rattle.occurrences.specs.Counting.{Counting};
-ghost use Rattle.model.specs.Called.{Words};
+ghost use Rattle.linear_model.specs.Called.{Words};
 ghost use Rattle.occurrences.specs.Flags.{Flagged, isValue, peelsTo, isTaken, isConsumed, countsIn};
 
 // The flag of the node that the argument a peels to.
@@ -22,8 +22,8 @@ fn argument_turn(part: &[u8], b: usize, a: usize, flags: &mut [bool])
     ensures { λ _. ⌜ (length (now (flags .exit)) ≡ 2048)
         × ((W : View (now (part .entry)) b) → Flagged (now (flags .entry)) (now (flags .exit)) (λ j. peelsTo (treeOf W) j a)) ⌝ }
 {
-    let r = nodes::bottom(Past::Peels, part, b, a);
-    if r < nodes::end(part, b, a) {
+    let r = linear_nodes::bottom(Past::Peels, part, b, a);
+    if r < linear_nodes::end(part, b, a) {
         flags[r] = true;
     }
 }
@@ -34,9 +34,9 @@ fn arguments(part: &[u8], b: usize, c: usize, flags: &mut [bool])
     ensures { λ _. ⌜ (length (now (flags .exit)) ≡ 2048)
         × ((W : View (now (part .entry)) b) → Flagged (now (flags .entry)) (now (flags .exit)) (λ j. isTaken (treeOf W) j c)) ⌝ }
 {
-    let e = nodes::end(part, b, c) - b;
+    let e = linear_nodes::end(part, b, c) - b;
     let callee = c + 1;
-    let first = nodes::end(part, b, callee);
+    let first = linear_nodes::end(part, b, callee);
     let mut children = Cursor {
         at: first - b,
         end: e,
@@ -63,10 +63,10 @@ fn call_turn(part: &[u8], b: usize, p: usize, reader: &[bool], flags: &mut [bool
         × ((T : Words (now (part .entry)) b (now (reader .entry)))
         → Flagged (now (flags .entry)) (now (flags .exit)) (λ j. also (has (treeOf (T .view) .kind p) call) (isConsumed (treeOf (T .view)) (T .words) j) p)) ⌝ }
 {
-    if nodes::kind(part, b, p) != 43 {
+    if linear_nodes::kind(part, b, p) != 43 {
         return;
     }
-    if model::calls_field(part, b, p, reader) {
+    if linear_model::calls_field(part, b, p, reader) {
         return;
     }
     arguments(part, b, p, flags);
@@ -78,10 +78,10 @@ fn assign_turn(part: &[u8], b: usize, p: usize, flags: &mut [bool])
     ensures { λ _. ⌜ (length (now (flags .exit)) ≡ 2048)
         × ((W : View (now (part .entry)) b) → Flagged (now (flags .entry)) (now (flags .exit)) (λ j. also (has (treeOf W .kind p) assign) (isValue (treeOf W) j) p)) ⌝ }
 {
-    if nodes::kind(part, b, p) != 27 {
+    if linear_nodes::kind(part, b, p) != 27 {
         return;
     }
-    let v = nodes::end(part, b, p + 1);
+    let v = linear_nodes::end(part, b, p + 1);
     flags[v] = true;
 }
 
@@ -92,10 +92,10 @@ fn statement_turn(part: &[u8], b: usize, p: usize, reader: &[bool], flags: &mut 
         × ((T : Words (now (part .entry)) b (now (reader .entry)))
         → Flagged (now (flags .entry)) (now (flags .exit)) (λ j. also (has (treeOf (T .view) .kind p) statement) (countsIn (treeOf (T .view)) (T .words) j) p)) ⌝ }
 {
-    if !nodes::is_statement(nodes::kind(part, b, p)) {
+    if !linear_nodes::is_statement(linear_nodes::kind(part, b, p)) {
         return;
     }
-    let e = nodes::end(part, b, p);
+    let e = linear_nodes::end(part, b, p);
     assign_turn(part, b, p, flags);
     let mut q = p + 1;
     while q < e {
@@ -114,6 +114,6 @@ pub fn mark_counted(part: &[u8], b: usize, reader: &[bool], flags: &mut [bool])
     let mut p = b;
     while p < e {
         statement_turn(part, b, p, reader, flags);
-        p = nodes::next(part, b, p);
+        p = linear_nodes::next(part, b, p);
     }
 }

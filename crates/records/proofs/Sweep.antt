@@ -10,11 +10,11 @@ use native.Mathlib.Omega.{arith}
 use borrow.Author.Tests.{eq-eqb, ne-eqb}
 use Rattle.rules.specs.Sweep.{run, keep, has}
 use Rattle.rules.specs.Tree.{Tree}
-use Rattle.rules.specs.Vocabulary.{Rec, below}
-use Rattle.records.specs.Records.{Laid}
-use Rattle.records.proofs.Laws.{laid-none, laid-join, laid-as}
+use Rattle.rules.specs.Vocabulary.{Rec, only, below}
+use Rattle.records.specs.Records.{Laid, Added}
+use Rattle.records.proofs.Laws.{laid-none, laid-join, laid-as, laid-long}
 
-run-none : {A : Type 0} (f : ℕ → List A) (a : ℕ) → run f a 0 ≡ []
+pub run-none : {A : Type 0} (f : ℕ → List A) (a : ℕ) → run f a 0 ≡ []
 unfolding run
 run-none f a = refl
 
@@ -23,7 +23,7 @@ unfolding run
 run-next f a n = ap (run f a) (add-one n)
 
 -- nodes that contribute nothing can be left out, at the front of a range or at its back
-run-empty : {A : Type 0} (f : ℕ → List A) (a n : ℕ) → ((i : ℕ) → a ≤ i → i < a + n → f i ≡ []) → run f a n ≡ []
+pub run-empty : {A : Type 0} (f : ℕ → List A) (a n : ℕ) → ((i : ℕ) → a ≤ i → i < a + n → f i ≡ []) → run f a n ≡ []
 unfolding run
 run-empty f a zero h = refl
 run-empty f a (suc n) h = rw (run-empty f a n (λ i l g. h i l (omega arith))) (h (a + n) (omega arith) (omega arith))
@@ -47,9 +47,25 @@ pub run-later : {A : Type 0} (f : ℕ → List A) (a b e : ℕ) → a ≤ b → 
 run-later {A} f a b e l h g =
     run-parts f a b e l h ∙ ap (λ (m : List A). m ++ run f b (e - b)) (run-empty f a (b - a) (λ i p q. g i p (omega arith)))
 
-run-sooner : {A : Type 0} (f : ℕ → List A) (a b e : ℕ) → a ≤ b → b ≤ e → ((i : ℕ) → b ≤ i → i < e → f i ≡ []) → run f a (e - a) ≡ run f a (b - a)
+pub run-sooner : {A : Type 0} (f : ℕ → List A) (a b e : ℕ) → a ≤ b → b ≤ e → ((i : ℕ) → b ≤ i → i < e → f i ≡ []) → run f a (e - a) ≡ run f a (b - a)
 run-sooner {A} f a b e l h g =
     run-parts f a b e l h ∙ ap (λ (m : List A). run f a (b - a) ++ m) (run-empty f b (e - b) (λ i p q. g i p (omega arith))) ∙ append-nil (run f a (b - a))
+
+-- one more node contributes, and none up to q
+pub run-on : {A : Type 0} (f : ℕ → List A) (a p q : ℕ) → a ≤ p → p < q → ((i : ℕ) → p < i → i < q → f i ≡ []) → run f a (q - a) ≡ run f a (p - a) ++ f p
+run-on f a p q l h g =
+    let e : p + 1 - a ≡ p - a + 1 = omega arith in
+    let d : a + (p - a) ≡ p = omega arith in
+    run-sooner f a (p + 1) q (omega arith) (omega arith) (λ i m n. g i (omega arith) n) ∙ ap (run f a) e ∙ run-next f a (p - a) ∙ ap (λ (j : ℕ). run f a (p - a) ++ f j) d
+
+pub run-one : {A : Type 0} (f : ℕ → List A) (a : ℕ) → run f a (a + 1 - a) ≡ f a
+unfolding run
+run-one f a = let e : a + 1 - a ≡ 1 = omega arith in let z : a + 0 ≡ a = omega arith in ap (run f a) e ∙ ap f z
+
+pub run-same : {A : Type 0} (f g : ℕ → List A) (a n : ℕ) → ((i : ℕ) → a ≤ i → i < a + n → f i ≡ g i) → run f a n ≡ run g a n
+unfolding run
+run-same f g a zero h = refl
+run-same f g a (suc n) h = rw (run-same f g a n (λ i l k. h i l (omega arith)), h (a + n) (omega arith) (omega arith))
 
 -- the nodes from a up to p have contributed
 abbrev pub Swept : (ℕ → List Rec) → ℕ → List ℕ → ℕ → ℕ → List ℕ → ℕ → Type 0
@@ -61,20 +77,13 @@ swept-none f a o k = rw (sub-self a) (rw run-none (laid-none o k))
 -- p has contributed too, and the nodes from there up to q contribute nothing
 swept-on : (f : ℕ → List Rec) (a p q : ℕ) {o₀ o₁ o₂ : List ℕ} {k₀ k₁ k₂ : ℕ} → a ≤ p → p < q → ((i : ℕ) → p < i → i < q → f i ≡ [])
     → Swept f a o₀ k₀ p o₁ k₁ → Laid o₁ k₁ (f p) o₂ k₂ → Swept f a o₀ k₀ q o₂ k₂
-swept-on f a p q l h g w z =
-    let e : p + 1 - a ≡ p - a + 1 = omega arith in
-    let d : a + (p - a) ≡ p = omega arith in
-    laid-as
-    (ap (λ (j : ℕ). run f a (p - a) ++ f j) (sym d) ∙ sym (run-next f a (p - a)) ∙ ap (run f a) (sym e)
-    ∙ sym (run-sooner f a (p + 1) q (omega arith) (omega arith) (λ i m n. g i (omega arith) n)))
-    (laid-join w z)
+swept-on f a p q l h g w z = laid-as (sym (run-on f a p q l h g)) (laid-join w z)
 
 -- The invariant of every sweep: the nodes from `from` up to p have contributed F, each at most `most` records, whichever x the nodes are seen by (an image; an image and an entry; ..).
 pub record Sweeping {X : Type 0} (F : X → ℕ → List Rec) (from to most : ℕ) (o₀ : List ℕ) (k₀ : ℕ) (o : List ℕ) (k p : ℕ) : Type 0 where
   pub low : from ≤ p
   pub high : p ≤ to
   pub few : k ≤ k₀ + most * (p - from)
-  pub long : length o ≡ length o₀
   pub laid : (x : X) → Swept (F x) from o₀ k₀ p o k
 
 more : (most d m : ℕ) → d < m → most * d + most ≤ most * m
@@ -99,31 +108,41 @@ module _ {X : Type 0} {F : X → ℕ → List Rec} {from to most : ℕ} {o₀ : 
     low = omega arith;
     high = h;
     few = omega arith;
-    long = refl;
     laid = λ x. swept-none (F x) from o₀ k₀;
   }
 
-  -- on to q, past nodes that contribute nothing: the next child of a cursor
-  pub sweep-on : {o o′ : List ℕ} {k k′ p q : ℕ} → Sweeping F from to most o₀ k₀ o k p → p < q → q ≤ to → ((x : X) (i : ℕ) → p < i → i < q → F x i ≡ [])
-      → ((x : X) → Laid o k (F x p) o′ k′) → k′ ≤ k + most → length o′ ≡ length o → Sweeping F from to most o₀ k₀ o′ k′ q
-  sweep-on {o} {o′} {k} {k′} {p} {q} w g h z l f n =
+  -- on to q, past nodes that contribute nothing: the next child
+  pub sweep-on : {o o′ : List ℕ} {k k′ p q : ℕ} → Sweeping F from to most o₀ k₀ o k p → Added (λ x. F x p) most o k o′ k′
+      → p < q → q ≤ to → ((x : X) (i : ℕ) → p < i → i < q → F x i ≡ []) → Sweeping F from to most o₀ k₀ o′ k′ q
+  sweep-on {o} {o′} {k} {k′} {p} {q} w a g h z =
       let i = w .low in
       let j = w .few in
+      let f = a .few in
       let m = more most (p - from) (q - from) (omega arith) in
       record {
         low = omega arith;
         high = h;
         few = omega arith;
-        long = n ∙ w .long;
-        laid = λ x. swept-on (F x) from p q i g (z x) (w .laid x) (l x);
+        laid = λ x. swept-on (F x) from p q i g (z x) (w .laid x) (a .laid x);
       }
 
-  pub sweep-again : {o o′ : List ℕ} {k k′ p : ℕ} → Sweeping F from to most o₀ k₀ o k p → p < to
-      → ((x : X) → Laid o k (F x p) o′ k′) → k′ ≤ k + most → length o′ ≡ length o → Sweeping F from to most o₀ k₀ o′ k′ (p + 1)
-  sweep-again w h l f n = sweep-on w (omega arith) (omega arith) (λ x i a b. absurd (omega arith)) l f n
+  pub sweep-again : {o o′ : List ℕ} {k k′ p : ℕ} → Sweeping F from to most o₀ k₀ o k p → Added (λ x. F x p) most o k o′ k′ → p < to
+      → Sweeping F from to most o₀ k₀ o′ k′ (p + 1)
+  sweep-again w a h = sweep-on w a (omega arith) (omega arith) (λ x i b c. absurd (omega arith))
 
   pub sweep-done : {o : List ℕ} {k p : ℕ} → Sweeping F from to most o₀ k₀ o k p → to ≤ p → (x : X) → Laid o₀ k₀ (run (F x) from (to - from)) o k
   sweep-done {o} {k} {p} w h x = let i = w .high in let e : p ≡ to = omega arith in rw e at (w .laid x)
+
+  -- what the whole of it adds
+  pub swept : {L : X → List Rec} {all : ℕ} {o : List ℕ} {k p : ℕ} → Sweeping F from to most o₀ k₀ o k p → to ≤ p → ((x : X) → run (F x) from (to - from) ≡ L x) → most * (to - from) ≤ all → Added L all o₀ k₀ o k
+  swept {o = o} {k = k} {p = p} w h g m =
+      let i = w .high in
+      let e : p ≡ to = omega arith in
+      let f : k ≤ k₀ + most * (to - from) = rw e at (w .few) in
+      record { laid = λ x. laid-as (g x) (sweep-done w h x); few = omega arith }
+
+  pub sweep-long : {o : List ℕ} {k p : ℕ} → Sweeping F from to most o₀ k₀ o k p → X → length o ≡ length o₀
+  sweep-long w x = laid-long (w .laid x)
 
 -- One node's part in a sweep: the test of its kind.
 pub has-one : (k j : ℕ) → k ≡ j → has k (j ∷ []) ≡ true
@@ -147,16 +166,26 @@ pub keep-none : {A : Type 0} {b : Bool} (f : ℕ → List A) (p : ℕ) → b ≡
 unfolding keep
 keep-none f p e = rw e
 
+pub keep-one : {A : Type 0} {b : Bool} (f : ℕ → List A) (p : ℕ) → b ≡ true → keep b f p ≡ f p
+unfolding keep
+keep-one f p e = rw e
+
+-- a rule asked at a node of another kind; of its kind
+module _ {k j : ℕ} (f : ℕ → List Rec) (p : ℕ) (r : Rec) where
+  pub asks-other : (k ≡ j → ⊥) → keep (has k (j ∷ [])) f p ≡ only false r
+  unfolding only
+  asks-other n = keep-none f p (has-not k j n)
+
+  pub asks-here : (hit : Bool) → k ≡ j → f p ≡ only hit r → keep (has k (j ∷ [])) f p ≡ only hit r
+  asks-here hit e d = keep-one f p (has-one k j e) ∙ d
+
 -- a sweep over the nodes of a range, each kept by its kind, is what stands below its node
-pub laid-below : (t : Tree) (ks : List ℕ) (f : ℕ → List Rec) (a from to : ℕ) {o o′ : List ℕ} {n n′ : ℕ} → from ≡ a + 1 → to ≡ t .end a
-    → Laid o n (run (λ i. keep (has (t .kind i) ks) f i) from (to - from)) o′ n′ → Laid o n (below t ks a f) o′ n′
+pub run-below : (t : Tree) (ks : List ℕ) (f : ℕ → List Rec) (a from to : ℕ) → from ≡ a + 1 → to ≡ t .end a → run (λ i. keep (has (t .kind i) ks) f i) from (to - from) ≡ below t ks a f
 unfolding below
-laid-below t ks f a from to d e l = let z : from ≡ suc a = omega arith in rw (e, z) at l
+run-below t ks f a from to d e = let z : from ≡ suc a = omega arith in rw (e, z)
 
 -- also where the sweep starts later, past nodes that are not of these kinds
-pub laid-below-later : (t : Tree) (ks : List ℕ) (f : ℕ → List Rec) (a from to : ℕ) {o o′ : List ℕ} {n n′ : ℕ} → a < from → from ≤ to → to ≡ t .end a
-    → ((i : ℕ) → a < i → i < from → has (t .kind i) ks ≡ false)
-    → Laid o n (run (λ i. keep (has (t .kind i) ks) f i) from (to - from)) o′ n′ → Laid o n (below t ks a f) o′ n′
-laid-below-later t ks f a from to g h e z l =
-    laid-below t ks f a (a + 1) to refl e
-    (laid-as (sym (run-later (λ i. keep (has (t .kind i) ks) f i) (a + 1) from to (omega arith) h (λ i b c. keep-none f i (z i (omega arith) c)))) l)
+pub run-below-later : (t : Tree) (ks : List ℕ) (f : ℕ → List Rec) (a from : ℕ) → a < from → from ≤ t .end a → ((i : ℕ) → a < i → i < from → has (t .kind i) ks ≡ false)
+    → run (λ i. keep (has (t .kind i) ks) f i) from (t .end a - from) ≡ below t ks a f
+run-below-later t ks f a from g h z =
+    sym (run-later (λ i. keep (has (t .kind i) ks) f i) (a + 1) from (t .end a) (omega arith) h (λ i b c. keep-none f i (z i (omega arith) c))) ∙ run-below t ks f a (a + 1) (t .end a) refl refl

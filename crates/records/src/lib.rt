@@ -2,27 +2,55 @@
 ghost use mathlib.Core.Path.{_≡_};
 ghost use mathlib.Core.List.{[], _∷_};
 ghost use Prim.Native.Nat.{ℕ, _+_, _*_, _<_, _≤_, _^_};
-ghost use lib.ListN.{length, getD, set};
-ghost use Rattle.records.specs.Records.{Laid};
-ghost use Rattle.rules.specs.Vocabulary.{Rec, rec};
+ghost use lib.ListN.{length, set};
+ghost use Rattle.rules.specs.Vocabulary.{rec, only};
+ghost use Rattle.records.specs.Words.{old, new};
+ghost use Rattle.records.specs.Records.{Adds, hits};
 
 // Stores w at i, if the buffer has such a word.
 fn put(out: &mut [u16], i: usize, w: u16)
-    ensures { λ _. ⌜ now (out .exit) ≡ set (now (out .entry)) i w ⌝ }
+    ensures { λ _. ⌜ new out ≡ set (old out) i w ⌝ }
 {
     if i < out.len() {
         out[i] = w;
     }
 }
 
-// Writes a record at the k-th record's place, where there is room, and counts it.
-pub fn emit(out: &mut [u16], k: usize, code: u16, place: u16, related: u16) -> usize
-    requires { ⌜ k < 2 ^ 60 ⌝ }
-    ensures { λ r. ⌜ Laid (now (out .entry)) k (rec code place related ∷ []) (now (out .exit)) r ⌝ }
-    ensures { λ r. ⌜ r ≡ k + 1 ⌝ }
+// Writes a record after the `count` records before it, where there is room, and counts it.
+pub fn emit(out: &mut [u16], count: usize, code: u16, place: u16, related: u16) -> usize
+    requires { ⌜ count < 2 ^ 60 ⌝ }
+    ensures { λ r. ⌜ Adds (λ (_ : Unit {0}). rec code place related ∷ []) 1 out count r ⌝ }
 {
-    put(out, 3 * k, code);
-    put(out, 3 * k + 1, place);
-    put(out, 3 * k + 2, related);
-    k + 1
+    put(out, 3 * count, code);
+    put(out, 3 * count + 1, place);
+    put(out, 3 * count + 2, related);
+    count + 1
+}
+
+// The record of a rule that asks about node `place`, if the answer is yes.
+pub fn emit_if(hit: bool, out: &mut [u16], count: usize, code: u16, place: usize) -> usize
+    requires { ⌜ (count < 2 ^ 60) × (place < 65536) ⌝ }
+    ensures { λ r. ⌜ Adds (λ (_ : Unit {0}). only hit (rec code place 0)) 1 out count r ⌝ }
+{
+    if hit {
+        return emit(out, count, code, place as u16, 0);
+    }
+    count
+}
+
+// What a rule whose record has a related word answers: no record, or one with that word.
+pub enum Hit {
+    Nothing,
+    At(u16),
+}
+
+// The record of a rule that asks about node `place`, if it answers one.
+pub fn emit_hit(hit: Hit, out: &mut [u16], count: usize, code: u16, place: usize) -> usize
+    requires { ⌜ (count < 2 ^ 60) × (place < 65536) ⌝ }
+    ensures { λ r. ⌜ Adds (λ (_ : Unit {0}). hits hit code place) 1 out count r ⌝ }
+{
+    match hit {
+        Hit::Nothing => count,
+        Hit::At(related) => emit(out, count, code, place as u16, related),
+    }
 }

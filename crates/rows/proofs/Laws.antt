@@ -12,8 +12,8 @@ use lib.Seq.{getD-set-same, getD-set-other}
 use Rattle.image.specs.Pick.{pick, both}
 use Rattle.image.proofs.Marked.{eq-or-ne}
 use Rattle.rules.specs.Vocabulary.{Rec, rec, only}
-use Rattle.records.specs.Records.{Laid}
-use Rattle.records.proofs.Laws.{laid-none}
+use Rattle.linear_records.specs.Records.{Laid}
+use Rattle.linear_records.proofs.Laws.{laid-none}
 use Rattle.rows.specs.Tracked.{Within, Points, Firsts, Lasts, Rows, Blank}
 use Rattle.rows.specs.Ruled.{ruled}
 

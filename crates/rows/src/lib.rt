@@ -8,7 +8,7 @@ ghost use lib.ListN.{length, getD, set};
 ghost use lib.Dec.{eqb};
 ghost use Rattle.image.specs.Pick.{pick, both};
 ghost use Rattle.rules.specs.Sweep.{run};
-ghost use Rattle.records.specs.Records.{Laid};
+ghost use Rattle.linear_records.specs.Records.{Laid};
 ghost use Rattle.rows.specs.Tracked.{Within, Rows, Blank};
 ghost use Rattle.rows.specs.Ruled.{ruledAt};
 
@@ -104,12 +104,12 @@ fn judge_turn(
 {
     let m = wide(marks[r]) + wide(counts[r]);
     if m == 0 {
-        return records::emit(out, k, 61, places[r], 0);
+        return linear_records::emit(out, k, 61, places[r], 0);
     }
     if m == 1 {
         return k;
     }
-    records::emit(out, k, 62, places[r], seconds[r])
+    linear_records::emit(out, k, 62, places[r], seconds[r])
 }
 
 // 61 and 62, the n rows in order.

@@ -14,9 +14,9 @@ use Rattle.rules.specs.Vocabulary.{someBelow, named}
 use Rattle.rules.specs.Model.{inner}
 use Rattle.rules.specs.Linear.{isBurned, isCounted}
 use Rattle.rules.proofs.Reflect.{tells-same}
-use Rattle.records.proofs.Sweep.{has-one, has-not}
-use Rattle.nodes.specs.Shown.{word, number}
-use Rattle.model.specs.Inner.{InnerIs}
+use Rattle.linear_records.proofs.Sweep.{has-one, has-not}
+use Rattle.linear_nodes.specs.Shown.{word, number}
+use Rattle.linear_model.specs.Inner.{InnerIs}
 use Rattle.tracked.proofs.Lists.{not-so}
 use Rattle.tallies.specs.Tally.{hit, burnHit, useHit}
 

@@ -11,9 +11,9 @@ use Rattle.rules.specs.Tree.{Tree, tree, param, burns, ident}
 use Rattle.rules.specs.Words.{Q-Asset}
 use Rattle.rules.specs.Vocabulary.{alone, someBelow, named}
 use Rattle.rules.specs.Linear.{isBurned, isCounted}
-use Rattle.nodes.specs.Shown.{View, treeOf, number}
-use Rattle.nodes.specs.Marks.{Marks}
-use Rattle.model.specs.Found.{Numbered}
+use Rattle.linear_nodes.specs.Shown.{View, treeOf, number}
+use Rattle.linear_nodes.specs.Marks.{Marks}
+use Rattle.linear_model.specs.Found.{Numbered}
 use Rattle.rows.specs.Tracked.{Within, Blank}
 
 -- the numbers from a up to e that pass the test

@@ -8,8 +8,8 @@ ghost use Rattle.image.specs.Pick.{pick, both};
 ghost use lib.Dec.{eqb};
 ghost use Rattle.image.specs.Node.{endOf};
 ghost use Rattle.rules.specs.Linear.{second};
-ghost use Rattle.nodes.specs.Shown.{View, In, treeOf};
-ghost use Rattle.nodes.specs.Marks.{Marks};
+ghost use Rattle.linear_nodes.specs.Shown.{View, In, treeOf};
+ghost use Rattle.linear_nodes.specs.Marks.{Marks};
 ghost use Rattle.tallies.specs.Tally.{hits, burnHit, useHit, Room, Ready, Burning, Unburned, Flagged};
 
 // One node of entry e: a mark, where it is a burned parameter.
@@ -28,17 +28,17 @@ fn burn_turn(
         × ((T : Burning (now (part .entry)) b q e (now (burned .entry))) (r : ℕ)
         → getD (now (marks .exit)) r 0 ≡ pick (burnHit (T .view .image) e (now (first .entry)) r y) (getD (now (marks .entry)) r 0 + 1) (getD (now (marks .entry)) r 0)) ⌝ }
 {
-    if nodes::kind(part, b, y) != 10 {
+    if linear_nodes::kind(part, b, y) != 10 {
         return;
     }
-    let x = model::inner_of(q, part, b, y + 2);
+    let x = linear_model::inner_of(q, part, b, y + 2);
     if x < 1 {
         return;
     }
-    if !nodes::marked(burned, x) {
+    if !linear_nodes::marked(burned, x) {
         return;
     }
-    rows::bump(nodes::name(part, b, y + 1), first, marks);
+    rows::bump(linear_nodes::name(part, b, y + 1), first, marks);
 }
 
 // The marks of entry e, on the first row of each burned parameter's name.
@@ -56,11 +56,11 @@ fn burn_marks(
         × ((T : Burning (now (part .entry)) b q e (now (burned .entry))) (r : ℕ) → getD (now (marks .entry)) r 0 ≡ 0
         → getD (now (marks .exit)) r 0 ≡ length (hits (burnHit (T .view .image) e (now (first .entry)) r) (e + 1) (treeOf (T .view) .end e))) ⌝ }
 {
-    let f = nodes::end(part, b, e);
+    let f = linear_nodes::end(part, b, e);
     let mut y = e + 1;
     while y < f {
         burn_turn(q, part, b, e, y, burned, first, marks);
-        y = nodes::next(part, b, y);
+        y = linear_nodes::next(part, b, y);
     }
 }
 
@@ -80,9 +80,9 @@ pub fn mark_burned(
         × ((r : ℕ) → getD (now (marks .entry)) r 0 ≡ 0
         → getD (now (marks .exit)) r 0 ≡ length (hits (burnHit (T .view .image) e (now (first .entry)) r) (e + 1) (treeOf (T .view) .end e)))) ⌝ }
 {
-    model::mark_clauses(18, part, b, e, true, burned);
+    linear_model::mark_clauses(18, part, b, e, true, burned);
     burn_marks(q, part, b, e, burned, first, marks);
-    model::mark_clauses(18, part, b, e, false, burned);
+    linear_model::mark_clauses(18, part, b, e, false, burned);
 }
 
 // One node: an occurrence more, where it is a counted Ident.
@@ -102,13 +102,13 @@ fn count_turn(
         → (getD (now (counts .exit)) r 0 ≡ pick (useHit (T .view .image) (T .item) (now (last .entry)) r i) (getD (now (counts .entry)) r 0 + 1) (getD (now (counts .entry)) r 0))
         × (getD (now (seconds .exit)) r 0 ≡ pick (both (useHit (T .view .image) (T .item) (now (last .entry)) r i) (eqb (getD (now (counts .exit)) r 0) 2)) i (getD (now (seconds .entry)) r 0))) ⌝ }
 {
-    if nodes::kind(part, b, i) != 35 {
+    if linear_nodes::kind(part, b, i) != 35 {
         return;
     }
     if !flags[i] {
         return;
     }
-    let r = rows::bump(nodes::name(part, b, i), last, counts);
+    let r = rows::bump(linear_nodes::name(part, b, i), last, counts);
     rows::note_second(r, i, counts, seconds);
 }
 

@@ -19,11 +19,11 @@ use Rattle.rules.specs.Linear.{produces, isRow, placeOf, isAlias}
 use Rattle.rules.proofs.Reflect.{Tells, Finds, tells-as, tells-both, tells-either, tells-ltb, tells-has, tells-someBelow, tells-named, finds-as, finds-below, finds-keep, finds-alone, own-alone, own-keep, below-rises, narrow}
 use Rattle.rules.proofs.Numbers.{same-numbers}
 use Rattle.rules.proofs.Admitted.{admitted}
-use Rattle.nodes.specs.Shown.{View, In, treeOf, number, word}
-use Rattle.nodes.specs.First.{NameFirst}
-use Rattle.nodes.proofs.Names.{in-range}
-use Rattle.nodes.proofs.Parts.{inside, there, formed}
-use Rattle.nodes.proofs.Shapes.{named-first, within}
+use Rattle.linear_nodes.specs.Shown.{View, In, treeOf, number, word}
+use Rattle.linear_nodes.specs.First.{NameFirst}
+use Rattle.linear_nodes.proofs.Names.{in-range}
+use Rattle.linear_nodes.proofs.Parts.{inside, there, formed}
+use Rattle.linear_nodes.proofs.Shapes.{named-first, within}
 use Rattle.rows.specs.Tracked.{Within, Points, Firsts, Lasts, Rows}
 use Rattle.tracked.specs.Held.{rowsOf, Held, Aliasing}
 use Rattle.tracked.proofs.Lists.{at-member, member-at, rising-at, tells-self, not-so}

@@ -18,19 +18,19 @@ use Rattle.rules.specs.Tree.{Tree, tree, param, «let», param-let, peels}
 use Rattle.rules.specs.Words.{Q-Asset, split, mint}
 use Rattle.rules.specs.Vocabulary.{rec, alone, below, down, atBottom, isField, isIdent, typed}
 use Rattle.rules.specs.Linear.{produces, isRow, placeOf, isAlias, rule60}
-use Rattle.records.proofs.Sweep.{has-one, has-not}
-use Rattle.nodes.specs.Shown.{View, In, treeOf, number}
-use Rattle.nodes.proofs.Names.{either-false}
-use Rattle.nodes.specs.First.{NameFirst}
-use Rattle.nodes.proofs.Parts.{kind-is, end-is, past}
-use Rattle.nodes.proofs.Shapes.{field-name, named-first}
-use Rattle.nodes.proofs.Children.{param-type}
-use Rattle.model.specs.Inner.{Assets}
-use Rattle.model.specs.Found.{Numbered}
-use Rattle.model.proofs.Said.{said}
+use Rattle.linear_records.proofs.Sweep.{has-one, has-not}
+use Rattle.linear_nodes.specs.Shown.{View, In, treeOf, number}
+use Rattle.linear_nodes.proofs.Names.{either-false}
+use Rattle.linear_nodes.specs.First.{NameFirst}
+use Rattle.linear_nodes.proofs.Parts.{kind-is, end-is, past}
+use Rattle.linear_nodes.proofs.Shapes.{field-name, named-first}
+use Rattle.linear_nodes.proofs.Children.{param-type}
+use Rattle.linear_model.specs.Inner.{Assets}
+use Rattle.linear_model.specs.Found.{Numbered}
+use Rattle.linear_model.proofs.Said.{said}
 use Rattle.rows.specs.Tracked.{Within, Points, Firsts, Lasts, Rows, Blank}
 use Rattle.rows.proofs.Laws.{last-or, laid-no, laid-yes}
-use Rattle.records.specs.Records.{Laid}
+use Rattle.linear_records.specs.Records.{Laid}
 use Rattle.tracked.specs.Held.{rowAt, rowsOf, isMaker, Held, Makers, Tracks}
 use Rattle.tracked.proofs.Lists.{run-on, run-none}
 

@@ -10,7 +10,7 @@ use lib.ListN.{length, getD}
 use Rattle.rules.specs.Sweep.{run}
 use Rattle.rules.specs.Vocabulary.{Rising}
 use Rattle.rules.proofs.Reflect.{Tells}
-use Rattle.records.proofs.Sweep.{run-next, run-parts, run-later}
+use Rattle.linear_records.proofs.Sweep.{run-next, run-parts, run-later}
 
 pub at-member : (xs : List ℕ) (r : ℕ) → r < length xs → List·Memᴰ (getD xs r 0) xs
 at-member [] r h = absurd (omega arith)

@@ -9,8 +9,8 @@ use Rattle.rules.specs.Tree.{Tree, tree, entry, param-let}
 use Rattle.rules.specs.Words.{Q-Asset, split, mint}
 use Rattle.rules.specs.Vocabulary.{alone, Below, below, isField, isIdent}
 use Rattle.rules.specs.Linear.{isRow, placeOf}
-use Rattle.nodes.specs.Shown.{View, treeOf, number}
-use Rattle.model.specs.Found.{Numbered}
+use Rattle.linear_nodes.specs.Shown.{View, treeOf, number}
+use Rattle.linear_model.specs.Found.{Numbered}
 use Rattle.rows.specs.Tracked.{Rows}
 
 -- node i, if it declares a row; the rows of entry e

@@ -1,5 +1,5 @@
 // The tracked rows of an entry ("Linear" of document 01): which of its nodes declare one, the walk that collects them, and 60, the Lets that are another name of one.
-use nodes::Past;
+use linear_nodes::Past;
 ghost use mathlib.Core.Path.{_≡_};
 ghost use mathlib.Core.Bool.{Bool, true, false};
 ghost use mathlib.Core.List.{List, [], _∷_, _++_};
@@ -13,9 +13,9 @@ ghost use Rattle.rules.specs.Tree.{«let», peels};
 ghost use Rattle.rules.specs.Vocabulary.{below, atBottom, typed};
 ghost use Rattle.rules.specs.Words.{Q-Asset};
 ghost use Rattle.rules.specs.Linear.{produces, isRow, placeOf, isAlias, rule60};
-ghost use Rattle.records.specs.Records.{Laid};
-ghost use Rattle.nodes.specs.Shown.{View, In, treeOf};
-ghost use Rattle.model.specs.Inner.{Assets};
+ghost use Rattle.linear_records.specs.Records.{Laid};
+ghost use Rattle.linear_nodes.specs.Shown.{View, In, treeOf};
+ghost use Rattle.linear_model.specs.Inner.{Assets};
 ghost use Rattle.rows.specs.Tracked.{Rows, Blank};
 ghost use Rattle.tracked.specs.Held.{rowAt, rowsOf, isMaker, Held, Makers, Tracks, Aliasing};
 
@@ -24,7 +24,7 @@ fn is_asset_param(q: usize, part: &[u8], b: usize, p: usize) -> bool
     requires { ⌜ View (now part) b × In (now part) b p × (kindOf (now part) (p - b) ≡ 10) ⌝ }
     ensures { λ r. ⌜ ((A : Assets (now (part .entry)) b q) → r ≡ typed (treeOf (A .view)) Q-Asset p) ⌝ }
 {
-    nodes::name(part, b, p + 3) == q
+    linear_nodes::name(part, b, p + 3) == q
 }
 
 // Whether the callee x is Field `split` or Ident `mint`.
@@ -32,13 +32,13 @@ fn is_maker(split: usize, mint: usize, part: &[u8], b: usize, x: usize) -> bool
     requires { ⌜ View (now part) b × In (now part) b x ⌝ }
     ensures { λ r. ⌜ ((T : Makers (now (part .entry)) b split mint) → r ≡ isMaker (treeOf (T .view)) x) ⌝ }
 {
-    let k = nodes::kind(part, b, x);
+    let k = linear_nodes::kind(part, b, x);
     if k == 42 {
-        let f = nodes::end(part, b, x + 1);
-        return nodes::name(part, b, f) == split;
+        let f = linear_nodes::end(part, b, x + 1);
+        return linear_nodes::name(part, b, f) == split;
     }
     if k == 35 {
-        return nodes::name(part, b, x) == mint;
+        return linear_nodes::name(part, b, x) == mint;
     }
     false
 }
@@ -48,11 +48,11 @@ fn produces_asset(split: usize, mint: usize, part: &[u8], b: usize, l: usize) ->
     requires { ⌜ View (now part) b × In (now part) b l × (kindOf (now part) (l - b) ≡ 25) ⌝ }
     ensures { λ r. ⌜ ((T : Makers (now (part .entry)) b split mint) → r ≡ produces (treeOf (T .view)) l) × (r ≡ true → l + 4 ≤ endOf (now (part .entry)) (l - b)) ⌝ }
 {
-    let v = nodes::bottom(Past::Peels, part, b, l + 2);
-    if nodes::end(part, b, l + 2) <= v {
+    let v = linear_nodes::bottom(Past::Peels, part, b, l + 2);
+    if linear_nodes::end(part, b, l + 2) <= v {
         return false;
     }
-    if nodes::kind(part, b, v) != 43 {
+    if linear_nodes::kind(part, b, v) != 43 {
         return false;
     }
     is_maker(split, mint, part, b, v + 1)
@@ -64,7 +64,7 @@ fn is_row(q: usize, split: usize, mint: usize, part: &[u8], b: usize, p: usize) 
     ensures { λ r. ⌜ ((T : Tracks (now (part .entry)) b q split mint) → r ≡ isRow (treeOf (T .view)) p)
         × (r ≡ true → (has (kindOf (now (part .entry)) (p - b)) (10 ∷ 25 ∷ []) ≡ true) × (p + 4 ≤ endOf (now (part .entry)) (p - b))) ⌝ }
 {
-    let k = nodes::kind(part, b, p);
+    let k = linear_nodes::kind(part, b, p);
     if k == 10 {
         return is_asset_param(q, part, b, p);
     }
@@ -79,7 +79,7 @@ fn place_of(part: &[u8], b: usize, p: usize) -> usize
     requires { ⌜ View (now part) b × In (now part) b p ⌝ }
     ensures { λ r. ⌜ ((W : View (now (part .entry)) b) → r ≡ placeOf (treeOf W) p) × (r ≤ p + 1) ⌝ }
 {
-    if nodes::kind(part, b, p) == 25 {
+    if linear_nodes::kind(part, b, p) == 25 {
         return p;
     }
     p + 1
@@ -108,7 +108,7 @@ fn row_turn(
     if !is_row(q, split, mint, part, b, p) {
         return n;
     }
-    let x = nodes::name(part, b, p + 1);
+    let x = linear_nodes::name(part, b, p + 1);
     let at = place_of(part, b, p);
     rows::push(n, x, at, names, places, first, last);
     n + 1
@@ -132,12 +132,12 @@ pub fn track(
     ensures { λ r. ⌜ Rows r (now (names .exit)) (now (first .exit)) (now (last .exit)) × (length (now (places .exit)) ≡ 511)
         × ((T : Tracks (now (part .entry)) b q split mint) → Held (T .view .image) (rowsOf (treeOf (T .view)) e) r (now (names .exit)) (now (places .exit))) ⌝ }
 {
-    let f = nodes::end(part, b, e);
+    let f = linear_nodes::end(part, b, e);
     let mut n = 0;
     let mut p = e + 1;
     while p < f {
         n = row_turn(q, split, mint, part, b, p, n, names, places, first, last);
-        p = nodes::next(part, b, p);
+        p = linear_nodes::next(part, b, p);
     }
     n
 }
@@ -147,14 +147,14 @@ fn is_asset_alias(part: &[u8], b: usize, e: usize, l: usize, places: &[u16], fir
     requires { ⌜ Aliasing (now part) b e (now places) (now first) × In (now part) b e × (e < l) × (l < endOf (now part) (e - b)) × (kindOf (now part) (l - b) ≡ 25) ⌝ }
     ensures { λ r. ⌜ ((T : Aliasing (now (part .entry)) b e (now (places .entry)) (now (first .entry))) → r ≡ atBottom (treeOf (T .view)) peels (l + 2) (isAlias (treeOf (T .view)) e l)) ⌝ }
 {
-    let v = nodes::bottom(Past::Peels, part, b, l + 2);
-    if nodes::end(part, b, l + 2) <= v {
+    let v = linear_nodes::bottom(Past::Peels, part, b, l + 2);
+    if linear_nodes::end(part, b, l + 2) <= v {
         return false;
     }
-    if nodes::kind(part, b, v) != 35 {
+    if linear_nodes::kind(part, b, v) != 35 {
         return false;
     }
-    let i = nodes::name(part, b, v) - 1;
+    let i = linear_nodes::name(part, b, v) - 1;
     let r = wide(first[i]);
     if r == 0 {
         return false;
@@ -185,13 +185,13 @@ fn alias_turn(
         → Laid (now (out .entry)) k (keep (has (treeOf (T .view) .kind l) «let») (rule60 (treeOf (T .view)) e) l) (now (out .exit)) r)
         × (r ≤ k + 1) × (length (now (out .exit)) ≡ length (now (out .entry))) ⌝ }
 {
-    if nodes::kind(part, b, l) != 25 {
+    if linear_nodes::kind(part, b, l) != 25 {
         return k;
     }
     if !is_asset_alias(part, b, e, l, places, first) {
         return k;
     }
-    records::emit(out, k, 60, l as u16, 0)
+    linear_records::emit(out, k, 60, l as u16, 0)
 }
 
 // 60: the Lets of entry e in order.
@@ -209,12 +209,12 @@ pub fn aliases(
         → Laid (now (out .entry)) k (below (treeOf (T .view)) «let» e (rule60 (treeOf (T .view)) e)) (now (out .exit)) r)
         × (r ≤ k + 2048) × (length (now (out .exit)) ≡ length (now (out .entry))) ⌝ }
 {
-    let f = nodes::end(part, b, e);
+    let f = linear_nodes::end(part, b, e);
     let mut at = k;
     let mut p = e + 1;
     while p < f {
         at = alias_turn(part, b, e, p, places, first, out, at);
-        p = nodes::next(part, b, p);
+        p = linear_nodes::next(part, b, p);
     }
     at
 }

@@ -1,63 +1,80 @@
--- From the answer of admission to the answers of the face; the first record, from a buffer of three words; numbers of each case.
-use Prim.Native.Nat.{ℕ, zero, suc, _+_, _*_, _-_, _≤_}
+-- From the answer of admission to what the face promises: of a pass, of a question, of the list and of a pass's part of it; the first
+-- record, from a buffer of three words; the parts of the list, one after the other.
+use Prim.Native.Nat.{ℕ, suc, _+_, _*_, _-_, _^_, _<_, _≤_}
 use mathlib.Core.Path.{_≡_, refl, ap, _∙_, sym}
 use mathlib.Core.Bool.{Bool, true, false}
-use mathlib.Core.List.{List, [], _∷_}
+use mathlib.Core.List.{List, [], _∷_, _++_, append-nil, append-assoc}
 use native.Mathlib.Omega.{arith}
-use borrow.Author.Tests.{eq-eqb, ne-eqb, eqb-true}
-use lib.Dec.{eqb}
-use lib.ListN.{length, getD, set, replicate, List·getD-eq-default}
-use lib.Seq.{sets, set-out}
-use Rattle.image.specs.Pick.{pick}
-use Rattle.image.specs.Node.{half, word}
-use Rattle.image.specs.Text.{slice}
-use Rattle.image.specs.Admit.{refusal, verdict, nodeCount, nameCount, nodesOf}
+use borrow.Author.Tests.{eq-eqb, ne-eqb, lt-ltb, le-ltb, leb-true}
+use lib.Dec.{eqb, leb}
+use lib.ListN.{length, length-append, getD, take, drop, length-drop, drop-of-length-le, replicate}
+use lib.Seq.{sets, sets-eq, set-out, take-all, drop-drop}
+use Rattle.image.specs.Pick.{pick, both}
+use Rattle.image.specs.Text.{namesOk}
+use Rattle.image.specs.Tree.{treeOk, depthOk, usedOk}
+use Rattle.image.specs.Admit.{lengthOk, versionOk, countsOk, layoutOk, namesOf, textPart, headerRefusal, bodyRefusal, refusal, verdict, nodeCount, nameCount, nodesOf}
 use Rattle.image.specs.declared.Image.{Image}
-use Rattle.image.specs.declared.Admission.{Admission}
-use Rattle.image.specs.declared.Admission.the-variants.{Admitted, Refused}
-use Rattle.image.proofs.Given.{given}
+use Rattle.image.specs.declared.Admission.the-variants as admission
+use Rattle.image.proofs.Every.{both-left}
 use Rattle.image.proofs.Verdict.{admitted-is, refused-is}
 use Rattle.rules.specs.Tree.{Tree, tree}
 use Rattle.rules.specs.Vocabulary.{Rec}
-use Rattle.rules.specs.Answers.{spanFrom, spanTo, passAnswer, ask, imageRefused, replied, replyRefused, partBuffer, firstOf as firstAnswer}
-use Rattle.records.specs.Records.{Laid, words}
-use Rattle.model.specs.Found.{Header}
+use Rattle.rules.specs.Resolve.{resolve}
+use Rattle.rules.specs.Access.{access}
+use Rattle.rules.specs.Linear.{linear}
+use Rattle.rules.specs.All.{offences}
+use Rattle.rules.specs.Passes as passes
+use Rattle.rules.specs.Answers as rules
+use Rattle.rules.proofs.Answers.{length-words, pass-refused, pass-admitted, list-refused, list-short, list-listed, buffer-refused, buffer-short, buffer-listed}
+use Rattle.rules.proofs.Passes.{judges-resolve, judges-access, judges-linear}
+use Rattle.records.specs.Records.{words, Laid, Added}
+use Rattle.records.proofs.Laws.{laid-join, laid-long}
+use Rattle.nodes.specs.Shown.{Admitted}
 use Rattle.typeck.specs.declared.Verdict.{Verdict}
 use Rattle.typeck.specs.declared.Verdict.the-variants as answer
+use Rattle.typeck.specs.declared.Reply.{Reply}
 use Rattle.typeck.specs.declared.Reply.the-variants as reply
 use Rattle.typeck.specs.declared.Listed.the-variants as listed
-use Rattle.typeck.specs.Face.{firstOf, verdictOf, answerOf, yesNo, replyOf, numbered, listedOf, wordsOf}
+use Rattle.typeck.specs.declared.Pass.{Pass}
+use Rattle.typeck.specs.declared.Pass.the-variants as pass
+use Rattle.typeck.specs.declared.Question.{Question}
+use Rattle.typeck.specs.Face.{Stands, answerOf, verdictOf, Judged, yesNo, numbered, Replied, listingOf, listedOf, ListedAll, partAnswer, partWords, ListedPart, recordsOf, questionOf, firstOf}
+
+-- the numbers of refusal end at 8
+pick-most : (b : Bool) (x y : ℕ) → x ≤ 8 → y ≤ 8 → pick b x y ≤ 8
+pick-most true x y h g = h
+pick-most false x y h g = g
+
+four-most : (a b c d : Bool) (i j k l : ℕ) → i ≤ 8 → j ≤ 8 → k ≤ 8 → l ≤ 8 → pick a (pick b (pick c (pick d 0 i) j) k) l ≤ 8
+four-most a b c d i j k l e f g h =
+    pick-most a _ l (pick-most b _ k (pick-most c _ j (pick-most d 0 i (omega arith) e) f) g) h
+
+header-most : (s : List ℕ) → headerRefusal s ≤ 8
+unfolding headerRefusal
+header-most s = four-most (lengthOk s) (versionOk s) (countsOk s) (layoutOk s (nodeCount s) (nameCount s)) 4 3 2 1 (omega arith) (omega arith) (omega arith) (omega arith)
+
+body-most : (nodes names text : List ℕ) (n m : ℕ) → bodyRefusal nodes names text n m ≤ 8
+unfolding bodyRefusal
+body-most nodes names text n m = four-most (namesOk names text m) (treeOk nodes names text n m) (depthOk nodes n) (usedOk nodes n m) 8 7 6 5 (omega arith) (omega arith) (omega arith) (omega arith)
+
+refusal-most : (s : List ℕ) → refusal s ≤ 8
+unfolding refusal
+refusal-most s = pick-most (eqb (headerRefusal s) 0) _ _ (body-most (nodesOf s) (namesOf s) (textPart s) (nodeCount s) (nameCount s)) (header-most s)
 
 module _ (s : List ℕ) where
-  pub header-is : (i : Image) → verdict (refusal s) s ≡ Admitted i → Header s (i .nodes) (i .names)
-  header-is i e =
+  pub admitted-by : (i : Image) → verdict (refusal s) s ≡ admission.Admitted i → Admitted s i
+  admitted-by i e =
       let a = admitted-is (refusal s) s i e in
       record { admitted = a .0; nodes = ap (λ (j : Image). j .nodes) (a .1); names = ap (λ (j : Image). j .names) (a .1) }
 
-  -- what is answered of an admitted image, and of one that is refused
-  pub on-admitted : {A : Type 0} (a b : A) → refusal s ≡ 0 → a ≡ pick (eqb (refusal s) 0) a b
-  on-admitted {A} a b e = sym (ap (λ (t : Bool). pick t a b) (eq-eqb (refusal s) 0 e))
-
-  pub refused-number : (k : ℕ) → verdict (refusal s) s ≡ Refused k → (k ≡ refusal s) × (eqb (refusal s) 0 ≡ false)
-  refused-number k e = (number (eqb (refusal s) 0) refl e, ne-eqb (refusal s) 0 (refused-is (refusal s) s k e))
+  pub refused-number : (k : ℕ) → verdict (refusal s) s ≡ admission.Refused k → k ≡ refusal s
+  refused-number k e = number (eqb (refusal s) 0) e
     where
-      number : (b : Bool) → eqb (refusal s) 0 ≡ b → pick b (Admitted (record { nodes = nodeCount s; names = nameCount s })) (Refused (refusal s)) ≡ Refused k → k ≡ refusal s
-      number true d f = let z : _≡_ {A = ℕ} 0 1 = cc in absurd (omega arith)
-      number false d f = cc
+      number : (b : Bool) → pick b (admission.Admitted (record { nodes = nodeCount s; names = nameCount s })) (admission.Refused (refusal s)) ≡ admission.Refused k → k ≡ refusal s
+      number true f = let z : _≡_ {A = ℕ} 0 1 = cc in absurd (omega arith)
+      number false f = cc
 
-  pub on-refused : {A : Type 0} (a : A) (f : ℕ → A) (k : ℕ) → verdict (refusal s) s ≡ Refused k → f k ≡ pick (eqb (refusal s) 0) a (f (refusal s))
-  on-refused {A} a f k e = let n = refused-number k e in ap f (n .0) ∙ sym (ap (λ (t : Bool). pick t a (f (refusal s))) (n .1))
-
-  -- past the last node there are no span words
-  pub no-span : refusal s ≡ 0 → (p d : ℕ) → nodeCount s ≤ p → 0 ≡ word (nodesOf s) (16 * p + d)
-  no-span e p d l =
-      let b = given s e .node-bytes in
-      let at-byte : (k : ℕ) → 16 * p ≤ k → getD (nodesOf s) k 0 ≡ 0 = λ k h. List·getD-eq-default (nodesOf s) 0 (omega arith) in
-      let z0 = at-byte (16 * p + d) (omega arith) in
-      let z1 = at-byte (16 * p + d + 1) (omega arith) in
-      let z2 = at-byte (16 * p + d + 2) (omega arith) in
-      let z3 = at-byte (16 * p + d + 2 + 1) (omega arith) in
-      omega arith
+-- A pass: the first record, from a buffer of three words
 
 sets-out : (ws l : List ℕ) (i : ℕ) → length l ≤ i → sets l i ws ≡ l
 sets-out [] l i h = refl
@@ -67,36 +84,173 @@ pub first-none : (s : List ℕ) (l : List Rec) {o : List ℕ} {k : ℕ} → Laid
 first-none s [] L e = refl
 first-none s (r ∷ l) {o} {k} L e = let c : k ≡ 0 + suc (length l) = L .count in absurd (omega arith)
 
-pub first-one : (s : List ℕ) (l : List Rec) {o : List ℕ} {k : ℕ} → Laid (replicate 3 0) 0 l o k → (k ≡ 0 → ⊥)
-    → answer.Refused (getD o 0 0) (getD o 1 0) (spanFrom s (getD o 1 0)) (spanTo s (getD o 1 0)) ≡ firstOf s l
-first-one s [] {o} {k} L n = let c : k ≡ 0 + 0 = L .count in absurd (n (omega arith))
-first-one s (r ∷ l) {o} {k} L n =
+pub first-one : (s : List ℕ) (l : List Rec) {o : List ℕ} {k p f t : ℕ} → Laid (replicate 3 0) 0 l o k → (k ≡ 0 → ⊥)
+    → p ≡ getD o 1 0 → f ≡ rules.spanFrom s p → t ≡ rules.spanTo s p → answer.Refused (getD o 0 0) (getD o 1 0) f t ≡ firstOf s l
+first-one s [] {k = k} L n z x y = let c : k ≡ 0 + 0 = L .count in absurd (n (omega arith))
+first-one s (r ∷ l) {o} L n z x y =
     let w : o ≡ r .code ∷ r .place ∷ r .related ∷ [] = L .words ∙ sets-out (words l) (r .code ∷ r .place ∷ r .related ∷ []) 3 (omega arith) in
-    rw w
+    rw (x, y, z, w)
 
--- the numbers of each answer are those of the rules
-pub verdict-numbers : (pass : Tree → List Rec) (s : List ℕ) → answerOf (verdictOf pass s) ≡ passAnswer pass s
-unfolding passAnswer
-verdict-numbers pass s = go (eqb (refusal s) 0) (pass (tree s))
+case-image : (r : ℕ) → (r ≡ 0 → ⊥) → r ≤ 8 → answer.Image r ≡ verdictOf (rules.imageRefused r)
+case-image r n h = sym (simp (ne-eqb r 0 n, lt-ltb r 9 (omega arith)))
+
+case-code : (c p f t : ℕ) → 9 ≤ c → answer.Refused c p f t ≡ verdictOf (record { number = c; place = p; from = f; to = t })
+case-code c p f t h = sym (simp (ne-eqb c 0 (λ e. omega arith), le-ltb c 9 h))
+
+first-numbers : (s : List ℕ) (l : List Rec) → answerOf (firstOf s l) ≡ rules.firstOf s l
+first-numbers s [] = refl
+first-numbers s (r ∷ l) = refl
+
+first-case : (s : List ℕ) (p : passes.Pass) (l : List Rec) → 9 ≤ p .least → firstOf s (passes.ofPass p l) ≡ verdictOf (rules.firstOf s (passes.ofPass p l))
+unfolding passes.ofPass
+first-case s p [] h = refl
+first-case s p (r ∷ l) h = go (first-case s p l h) (both (leb (p .least) (r .code)) (leb (r .code) (p .most))) refl
   where
-    go : (b : Bool) (l : List Rec) → answerOf (pick b (firstOf s l) (answer.Image (refusal s))) ≡ pick b (firstAnswer s l) (imageRefused (refusal s))
-    go true [] = refl
-    go true (r ∷ l) = refl
-    go false l = refl
+    go : firstOf s (passes.ofPass p l) ≡ verdictOf (rules.firstOf s (passes.ofPass p l)) → (b : Bool) → both (leb (p .least) (r .code)) (leb (r .code) (p .most)) ≡ b
+        → firstOf s (pick b (r ∷ passes.ofPass p l) (passes.ofPass p l)) ≡ verdictOf (rules.firstOf s (pick b (r ∷ passes.ofPass p l) (passes.ofPass p l)))
+    go i true e = let g = leb-true (p .least) (r .code) (both-left _ _ e) in case-code _ _ _ _ (omega arith)
+    go i false e = i
 
-pub reply-numbers : (question : Tree → List ℕ → Bool) (s w : List ℕ) → numbered (replyOf question s w) ≡ ask question s w
-unfolding ask
-reply-numbers question s w = go (eqb (refusal s) 0) (question (tree s) w)
-  where
-    go : (b q : Bool) → numbered (pick b (yesNo q) (reply.Image (refusal s))) ≡ pick b (replied q) (replyRefused (refusal s))
-    go true true = refl
-    go true false = refl
-    go false q = refl
+pub judged-refused : (pass : Tree → List Rec) (s : List ℕ) (k : ℕ) → verdict (refusal s) s ≡ admission.Refused k → Judged pass s (answer.Image k)
+judged-refused pass s k e =
+    let n = refused-is (refusal s) s k e in
+    let d = refused-number s k e in
+    record {
+      numbers = ap rules.imageRefused d ∙ sym (pass-refused pass s n);
+      case = ap answer.Image d ∙ case-image (refusal s) n (refusal-most s) ∙ sym (ap verdictOf (pass-refused pass s n));
+    }
 
--- a pass's part of the list
-pub part-answer : (pass : Tree → List Rec) (s : List ℕ) {o o′ : List ℕ} {k : ℕ} → refusal s ≡ 0 → Laid o 0 (pass (tree s)) o′ k → (listed.Records k ≡ listedOf pass s) × (o′ ≡ wordsOf pass s o)
-part-answer pass s {o} {o′} {k} e L =
-    let n : k ≡ length (pass (tree s)) = let c = L .count in omega arith in (
-      ap listed.Records n ∙ on-admitted s (listed.Records (length (pass (tree s)))) (listed.Refused (refusal s)) e,
-      L .words ∙ on-admitted s (partBuffer pass s o) o e,
-    )
+judged-by : (p : passes.Pass) (s : List ℕ) {v : Verdict} → 9 ≤ p .least → refusal s ≡ 0 → passes.Judges (tree s) p → v ≡ firstOf s (p .part (tree s)) → Judged (p .part) s v
+judged-by p s h e j f = record {
+  numbers = ap answerOf f ∙ first-numbers s (p .part (tree s)) ∙ sym (pass-admitted (p .part) s e);
+  case =
+      f ∙ ap (firstOf s) (sym (j .part)) ∙ first-case s p (offences (tree s)) h ∙ ap (λ (l : List Rec). verdictOf (rules.firstOf s l)) (j .part)
+      ∙ sym (ap verdictOf (pass-admitted (p .part) s e));
+}
+
+pub judged-admitted : (p : Pass) (s : List ℕ) {v : Verdict} → refusal s ≡ 0 → v ≡ firstOf s (recordsOf p (tree s)) → Judged (recordsOf p) s v
+judged-admitted pass.Resolve s e f = judged-by passes.resolving s (omega arith) e (judges-resolve s e) f
+judged-admitted pass.Access s e f = judged-by passes.accessing s (omega arith) e (judges-access s e) f
+judged-admitted pass.Linear s e f = judged-by passes.linearity s (omega arith) e (judges-linear s e) f
+
+-- A question
+
+module _ (question : Tree → List ℕ → Bool) (s w : List ℕ) where
+  pub replied-refused : (k : ℕ) → verdict (refusal s) s ≡ admission.Refused k → Replied question s w (reply.Image k)
+  unfolding rules.ask
+  replied-refused k e =
+      let d = refused-number s k e in
+      let n = ne-eqb (refusal s) 0 (refused-is (refusal s) s k e) in
+      record { numbers = rw n (ap rules.replyRefused d); case = rw n (rw n (ap reply.Image d)) }
+
+  replied-admitted : refusal s ≡ 0 → Replied question s w (yesNo (question (tree s) w))
+  unfolding rules.ask
+  replied-admitted e = let n = eq-eqb (refusal s) 0 e in record { numbers = rw n (yes (question (tree s) w)); case = rw n }
+    where
+      yes : (b : Bool) → numbered (yesNo b) ≡ rules.replied b
+      yes true = refl
+      yes false = refl
+
+  pub replied-by : {r : Reply} → refusal s ≡ 0 → r ≡ yesNo (question (tree s) w) → Replied question s w r
+  replied-by e f = rw f (replied-admitted e)
+
+-- Lists
+
+stands-refused : {n : rules.Listing} (k : ℕ) → (k ≡ 0 → ⊥) → n ≡ rules.listRefused k → Stands listingOf listedOf n (listed.Refused k)
+stands-refused k z e = record { numbers = sym e; case = sym (ap listedOf e ∙ simp (ne-eqb k 0 z)) }
+
+stands-records : {n : rules.Listing} (k : ℕ) → n ≡ rules.listed k → Stands listingOf listedOf n (listed.Records k)
+stands-records k e = record { numbers = sym e; case = sym (ap listedOf e) }
+
+module _ (s o : List ℕ) where
+  pub all-refused : (k : ℕ) → verdict (refusal s) s ≡ admission.Refused k → ListedAll s o (listed.Refused k) o
+  all-refused k e =
+      let n = refused-is (refusal s) s k e in
+      let d = refused-number s k e in
+      (stands-refused k (λ z. n (sym d ∙ z)) (list-refused s (length o) n ∙ ap rules.listRefused (sym d)), sym (buffer-refused s o n))
+
+  pub all-short : refusal s ≡ 0 → length o < 3 * length (offences (tree s)) → ListedAll s o (listed.Refused 9) o
+  all-short e h = (stands-refused 9 (λ z. omega arith) (list-short s (length o) e h), sym (buffer-short s o e h))
+
+  pub all-listed : {o′ : List ℕ} {k : ℕ} → refusal s ≡ 0 → 3 * length (offences (tree s)) ≤ length o
+      → Laid o 0 (offences (tree s)) o′ k → ListedAll s o (listed.Records k) o′
+  all-listed {o′} {k} e h L =
+      let c : length (offences (tree s)) ≡ k = (let n = L .count in omega arith) in
+      (stands-records k (list-listed s (length o) e h ∙ ap rules.listed c), L .words ∙ sym (buffer-listed s o e h))
+
+  module _ (pass : Tree → List Rec) where
+    pub part-refused : (k : ℕ) → verdict (refusal s) s ≡ admission.Refused k → ListedPart pass s o (listed.Refused k) o
+    unfolding partAnswer partWords
+    part-refused k e =
+        let n = refused-is (refusal s) s k e in
+        let d = refused-number s k e in
+        let f = ne-eqb (refusal s) 0 n in
+        (stands-refused k (λ z. n (sym d ∙ z)) (rw f (ap rules.listRefused (sym d))), rw f)
+
+    pub part-listed : {o′ : List ℕ} {k : ℕ} → refusal s ≡ 0 → Laid o 0 (pass (tree s)) o′ k → ListedPart pass s o (listed.Records k) o′
+    unfolding partAnswer partWords
+    part-listed {o′} {k} e L =
+        let c : length (pass (tree s)) ≡ k = (let n = L .count in omega arith) in
+        let f = eq-eqb (refusal s) 0 e in
+        (stands-records k (rw f (ap rules.listed c)), rw f (L .words))
+
+-- what each pass lists, and what each question answers, is what `list_of` and `holds` promise
+pub listed-by : {p q : Pass} (s : List ℕ) (most : ℕ) {o o′ : List ℕ} {k : ℕ} → p ≡ q → most ≤ 2 ^ 38
+    → Added (λ (_ : Unit {0}). recordsOf q (tree s)) most o 0 o′ k → Added (λ (_ : Unit {0}). recordsOf p (tree s)) (2 ^ 38) o 0 o′ k
+listed-by s most e h a = record { laid = λ x. rw e (a .laid x); few = let f = a .few in omega arith }
+
+pub held-by : {p q : Question} (s w : List ℕ) {r : Bool} → p ≡ q → r ≡ questionOf q (tree s) w → r ≡ questionOf p (tree s) w
+held-by s w e h = rw e h
+
+-- how many records the three passes have
+pub offences-many : (t : Tree) → length (offences t) ≡ length (resolve t) + length (access t) + length (linear t)
+unfolding offences
+offences-many t = let a = length-append (resolve t) (access t ++ linear t) in let b = length-append (access t) (linear t) in omega arith
+
+-- what a pass writes into the rest of a buffer after k records follows them
+sets-in : (w o : List ℕ) (i : ℕ) → i + length w ≤ length o → sets o i w ≡ take i o ++ (w ++ drop (i + length w) o)
+sets-in w o i h = sets-eq w o i h ∙ append-assoc (take i o) w (drop (i + length w) o)
+
+module _ (o : List ℕ) (k i e : ℕ) {l : List Rec} {v : List ℕ} {n : ℕ} (p : i ≡ 3 * k) (q : e ≡ length o) (h : 3 * (k + length l) ≤ length o) where
+  laid-rest : Laid (take (e - i) (drop i o)) 0 l v n → Laid o k l (take i o ++ (v ++ drop (e - i) (drop i o))) (k + n)
+  laid-rest L =
+      let w = words l in
+      let d = length-drop i o in
+      let m = length-words l in
+      let whole : take (e - i) (drop i o) ≡ drop i o = take-all (e - i) (drop i o) (omega arith) in
+      let over : drop (e - i) (drop i o) ≡ [] = drop-of-length-le (drop i o) {i = e - i} (omega arith) in
+      let z : i + (0 + length w) ≡ 3 * k + length w = omega arith in
+      record {
+        count = let c = L .count in omega arith;
+        words =
+            ap (λ (r : List ℕ). take i o ++ (v ++ r)) over
+            ∙ ap (λ (r : List ℕ). take i o ++ r) (append-nil v ∙ L .words ∙ ap (λ (r : List ℕ). sets r 0 w) whole ∙ sets-in w (drop i o) 0 (omega arith))
+            ∙ ap (λ (r : List ℕ). take i o ++ (w ++ r)) (drop-drop (0 + length w) i o ∙ ap (λ (j : ℕ). drop j o) z)
+            ∙ ap (λ (j : ℕ). take j o ++ (w ++ drop (3 * k + length w) o)) p ∙ sym (sets-in w o (3 * k) (omega arith));
+      }
+
+  pub added-rest : {most : ℕ} → Added (λ (_ : Unit {0}). l) most (take (e - i) (drop i o)) 0 v n
+      → Added (λ (_ : Unit {0}). l) most o k (take i o ++ (v ++ drop (e - i) (drop i o))) (k + n)
+  added-rest a = let f = a .few in record { laid = λ x. laid-rest (a .laid x); few = omega arith }
+
+-- so the passes, one after the other: each has room, and together they lay the whole list
+module _ (t : Tree) (o : List ℕ) (h : 3 * length (offences t) ≤ length o) where
+  pub room-resolve : 3 * (0 + length (resolve t)) ≤ length o
+  room-resolve = let n = offences-many t in omega arith
+
+  module _ {m : ℕ} {o₁ : List ℕ} {a : ℕ} (A : Added (λ (_ : Unit {0}). resolve t) m o 0 o₁ a) where
+    pub room-access : 3 * (a + length (access t)) ≤ length o₁
+    room-access = let n = offences-many t in let l = laid-long (A .laid tt) in let c = A .laid tt .count in omega arith
+
+    module _ {m′ : ℕ} {o₂ : List ℕ} {b : ℕ} (B : Added (λ (_ : Unit {0}). access t) m′ o₁ a o₂ b) where
+      pub room-linear : 3 * (b + length (linear t)) ≤ length o₂
+      room-linear =
+          let n = offences-many t in
+          let l = laid-long (B .laid tt) ∙ laid-long (A .laid tt) in
+          let c = A .laid tt .count in
+          let d = B .laid tt .count in
+          omega arith
+
+      pub laid-all : {m″ : ℕ} {o₃ : List ℕ} {c : ℕ} → Added (λ (_ : Unit {0}). linear t) m″ o₂ b o₃ c → Laid o 0 (offences t) o₃ c
+      unfolding offences
+      laid-all C = laid-join (A .laid tt) (laid-join (B .laid tt) (C .laid tt))

@@ -1,20 +1,24 @@
--- What the public functions answer, case by case, and document 01's numbers for each case.
+-- What the public functions answer: document 01's numbers for each case of an enum, the case that numbers name, and what is promised of
+-- an answer: the numbers of the rules, and no other case than they name.
 use Prim.Native.Nat.{ℕ}
-use mathlib.Core.Path.{_≡_, refl}
+use mathlib.Core.Path.{_≡_}
 use mathlib.Core.Bool.{Bool, true, false}
 use mathlib.Core.List.{List, [], _∷_}
-use lib.Dec.{eqb}
+use lib.Dec.{eqb, ltb}
 use lib.ListN.{length}
 use Rattle.image.specs.Pick.{pick}
 use Rattle.image.specs.Admit.{refusal}
-use Rattle.rules.specs.Tree.{Tree, tree}
+use Rattle.rules.specs.Tree.{Tree}
 use Rattle.rules.specs.Vocabulary.{Rec}
+use Rattle.rules.specs.Resolve.{resolve}
 use Rattle.rules.specs.Access.{access}
 use Rattle.rules.specs.Linear.{linear}
+use Rattle.rules.specs.Model.{isState, isDeclaredAsset, isKnownAsset}
 use Rattle.rules.specs.Answers as rules
 use Rattle.typeck.specs.declared.Pass.{Pass}
 use Rattle.typeck.specs.declared.Pass.the-variants as pass
-use Rattle.typeck.specs.declared.Answers.{Answers}
+use Rattle.typeck.specs.declared.Question.{Question}
+use Rattle.typeck.specs.declared.Question.the-variants as question
 use Rattle.typeck.specs.declared.Verdict.{Verdict}
 use Rattle.typeck.specs.declared.Verdict.the-variants as verdict
 use Rattle.typeck.specs.declared.Reply.{Reply}
@@ -22,57 +26,83 @@ use Rattle.typeck.specs.declared.Reply.the-variants as reply
 use Rattle.typeck.specs.declared.Listed.{Listed}
 use Rattle.typeck.specs.declared.Listed.the-variants as listed
 
--- the records of each pass
-abbrev pub recordsOf : Pass → Tree → List Rec
-recordsOf pass.Access = access
-recordsOf pass.Linear = linear
+-- the answer a has the numbers n, and is the case that they name
+pub record Stands {A N : Type 0} (numbersOf : A → N) (caseOf : N → A) (n : N) (a : A) : Type 0 where
+  pub numbers : numbersOf a ≡ n
+  pub case : a ≡ caseOf n
 
--- a pass: by its first record, or acceptance; the image's refusal where it has one
-abbrev pub firstOf : List ℕ → List Rec → Verdict
-firstOf s [] = verdict.Accepted
-firstOf s (r ∷ l) = verdict.Refused (r .code) (r .place) (rules.spanFrom s (r .place)) (rules.spanTo s (r .place))
+-- A pass
 
-abbrev pub verdictOf : (Tree → List Rec) → List ℕ → Verdict
-verdictOf pass s = pick (eqb (refusal s) 0) (firstOf s (pass (tree s))) (verdict.Image (refusal s))
-
--- all passes
-abbrev pub verdictsOf : List ℕ → Answers
-verdictsOf s =
-    pick (eqb (refusal s) 0)
-    (record { access = firstOf s (access (tree s)); linear = firstOf s (linear (tree s)) })
-    (record { access = verdict.Image (refusal s); linear = verdict.Image (refusal s) })
-
--- the number, place and spans of each case
 abbrev pub answerOf : Verdict → rules.Answer
 answerOf (verdict.Image r) = rules.imageRefused r
 answerOf verdict.Accepted = rules.accepted
 answerOf (verdict.Refused c p f t) = record { number = c; place = p; from = f; to = t }
 
--- a question about a name
-abbrev pub yesNo : Bool → Reply
-yesNo true = reply.Yes
-yesNo false = reply.No
+-- 0 acceptance, 1 to 8 the image's refusal, else a code
+abbrev pub verdictOf : rules.Answer → Verdict
+verdictOf a =
+    pick (eqb (a .number) 0) verdict.Accepted
+    (pick (ltb (a .number) 9) (verdict.Image (a .number)) (verdict.Refused (a .number) (a .place) (a .from) (a .to)))
 
-abbrev pub replyOf : (Tree → List ℕ → Bool) → List ℕ → List ℕ → Reply
-replyOf question s w = pick (eqb (refusal s) 0) (yesNo (question (tree s) w)) (reply.Image (refusal s))
+abbrev pub Judged : (Tree → List Rec) → List ℕ → Verdict → Type 0
+Judged pass s v = Stands answerOf verdictOf (rules.passAnswer pass s) v
+
+-- A question about a name
 
 abbrev pub numbered : Reply → rules.Reply
 numbered (reply.Image r) = rules.replyRefused r
 numbered reply.Yes = rules.replied true
 numbered reply.No = rules.replied false
 
+abbrev pub yesNo : Bool → Reply
+yesNo true = reply.Yes
+yesNo false = reply.No
+
+abbrev pub replyOf : rules.Reply → Reply
+replyOf a = pick (eqb (a .number) 0) (yesNo (a .yes)) (reply.Image (a .number))
+
+abbrev pub Replied : (Tree → List ℕ → Bool) → List ℕ → List ℕ → Reply → Type 0
+Replied asked s w r = Stands numbered replyOf (rules.ask asked s w) r
+
 -- yes as a number
 abbrev pub oneOf : Bool → ℕ
 oneOf true = 1
 oneOf false = 0
 
--- a pass's part of the list: how many records, and the buffer afterwards
-abbrev pub listedOf : (Tree → List Rec) → List ℕ → Listed
-listedOf pass s = pick (eqb (refusal s) 0) (listed.Records (rules.partCount pass s)) (listed.Refused (refusal s))
-
-abbrev pub wordsOf : (Tree → List Rec) → List ℕ → List ℕ → List ℕ
-wordsOf pass s o = pick (eqb (refusal s) 0) (rules.partBuffer pass s o) o
+-- A list, with the lent words before and after
 
 abbrev pub listingOf : Listed → rules.Listing
 listingOf (listed.Refused r) = rules.listRefused r
 listingOf (listed.Records k) = rules.listed k
+
+abbrev pub listedOf : rules.Listing → Listed
+listedOf a = pick (eqb (a .number) 0) (listed.Records (a .records)) (listed.Refused (a .number))
+
+abbrev pub ListedAll : List ℕ → List ℕ → Listed → List ℕ → Type 0
+ListedAll s words r words′ = Stands listingOf listedOf (rules.listAnswer s (length words)) r × (words′ ≡ rules.listBuffer s words)
+
+-- a pass's part of it: all its records are counted, those that fit are written from the buffer's start
+unfoldable pub partAnswer : (Tree → List Rec) → List ℕ → rules.Listing
+partAnswer pass s = pick (eqb (refusal s) 0) (rules.listed (rules.partCount pass s)) (rules.listRefused (refusal s))
+
+unfoldable pub partWords : (Tree → List Rec) → List ℕ → List ℕ → List ℕ
+partWords pass s words = pick (eqb (refusal s) 0) (rules.partBuffer pass s words) words
+
+abbrev pub ListedPart : (Tree → List Rec) → List ℕ → List ℕ → Listed → List ℕ → Type 0
+ListedPart pass s words r words′ = Stands listingOf listedOf (partAnswer pass s) r × (words′ ≡ partWords pass s words)
+
+-- Within the crate: the records of each pass, what each question asks, and the case that a list of records gives, by its first
+
+abbrev pub recordsOf : Pass → Tree → List Rec
+recordsOf pass.Resolve = resolve
+recordsOf pass.Access = access
+recordsOf pass.Linear = linear
+
+abbrev pub questionOf : Question → Tree → List ℕ → Bool
+questionOf question.State = isState
+questionOf question.Declared = isDeclaredAsset
+questionOf question.Known = isKnownAsset
+
+abbrev pub firstOf : List ℕ → List Rec → Verdict
+firstOf s [] = verdict.Accepted
+firstOf s (r ∷ l) = verdict.Refused (r .code) (r .place) (rules.spanFrom s (r .place)) (rules.spanTo s (r .place))

@@ -1,25 +1,33 @@
 // The public face of the checker: any bytes in, an answer in document 01's numbers out. No function here asks anything of its caller.
 use image::Admission;
+use image::Image;
 ghost use mathlib.Core.Path.{_≡_};
-ghost use mathlib.Core.Bool.{Bool, true, false};
 ghost use mathlib.Core.List.{List};
-ghost use Prim.Native.Nat.{ℕ, _+_, _*_, _<_, _≤_};
+ghost use Prim.Native.Nat.{_+_, _*_, _≤_, _^_};
 ghost use lib.ListN.{length, replicate};
 ghost use Rattle.image.specs.Admit.{refusal};
 ghost use Rattle.rules.specs.Vocabulary.{Rec};
 ghost use Rattle.rules.specs.Model.{isState, isDeclaredAsset, isKnownAsset};
 ghost use Rattle.rules.specs.Tree.{tree};
+ghost use Rattle.rules.specs.Resolve.{resolve};
 ghost use Rattle.rules.specs.Access.{access};
 ghost use Rattle.rules.specs.Linear.{linear};
-ghost use Rattle.records.specs.Records.{Laid};
-ghost use Rattle.model.specs.Found.{Header};
-ghost use Rattle.typeck.specs.Face.{recordsOf, firstOf, verdictOf, verdictsOf, yesNo, replyOf, listedOf, wordsOf};
+ghost use Rattle.rules.specs.All.{offences};
+ghost use Rattle.records.specs.Words.{old, new};
+ghost use Rattle.records.specs.Records.{Laid, Adds};
+ghost use Rattle.nodes.specs.Shown.{Admitted};
+ghost use Rattle.typeck.specs.Face.{Judged, Replied, ListedAll, ListedPart, recordsOf, questionOf, firstOf, yesNo};
 
 // What a pass answers: the image's refusal, acceptance, or the code, the place and its two span words.
 pub enum Verdict {
     Image(usize),
     Accepted,
-    Refused(u16, u16, u32, u32),
+    Refused {
+        code: u16,
+        place: u16,
+        from: u32,
+        to: u32,
+    },
 }
 
 // What a question about a name answers.
@@ -37,11 +45,30 @@ pub enum Listed {
 
 // The number of the image's refusal, 0 where it is admitted.
 pub fn refused(image: &[u8]) -> usize
-    ensures { λ r. ⌜ r ≡ refusal (now (image .entry)) ⌝ }
+    ensures { λ r. ⌜ r ≡ refusal (old image) ⌝ }
 {
     match image::admit(image) {
         Admission::Refused(r) => r,
-        Admission::Admitted(_header) => 0,
+        Admission::Admitted(_head) => 0,
+    }
+}
+
+// The passes, in the order that they run in.
+enum Pass {
+    Resolve,
+    Access,
+    Linear,
+}
+
+// The records of a pass, from the buffer's start: what fits is written, all is counted.
+fn list_of(pass: Pass, image: &[u8], head: Image, out: &mut [u16]) -> usize
+    requires { ⌜ Admitted (now image) head ⌝ }
+    ensures { λ r. ⌜ Adds (λ (_ : Unit {0}). recordsOf pass (tree (old image))) (2 ^ 38) out 0 r ⌝ }
+{
+    match pass {
+        Pass::Resolve => resolve::list(image, head, out),
+        Pass::Access => access::list(image, head, out),
+        Pass::Linear => linear::list(image, head, out),
     }
 }
 
@@ -52,172 +79,202 @@ fn wide(w: u16) -> usize
 }
 
 // The verdict, from the first record of a list that was written into three words.
-fn judge(image: &[u8], n: usize, out: &[u16], k: usize) -> Verdict
-    requires { ⌜ ((m : ℕ) × Header (now image) n m) × (length (now out) ≡ 3) ⌝ }
-    ensures { λ r. ⌜ ((l : List Rec) → Laid (replicate 3 0) 0 l (now (out .entry)) k → r ≡ firstOf (now (image .entry)) l) ⌝ }
+fn judge(image: &[u8], head: Image, out: &[u16], count: usize) -> Verdict
+    requires { ⌜ Admitted (now image) head × (length (now out) ≡ 3) ⌝ }
+    ensures { λ r. ⌜ ((l : List Rec) → Laid (replicate 3 0) 0 l (old out) count → r ≡ firstOf (old image) l) ⌝ }
 {
-    if k == 0 {
+    if count == 0 {
         return Verdict::Accepted;
     }
     let code = out[0];
     let place = out[1];
-    let p = wide(place);
-    if n <= p {
-        return Verdict::Refused(code, place, 0, 0);
-    }
-    let e = 24 + 16 * n;
-    let nodes = &image[24..e];
-    let from = image::span_from(nodes, p);
-    let to = image::span_to(nodes, p);
-    Verdict::Refused(code, place, from as u32, to as u32)
-}
-
-// The passes, in the order that they run in.
-pub enum Pass {
-    Access,
-    Linear,
-}
-
-// The records of a pass, from the buffer's start: what fits is written, all is counted.
-fn list_of(pass: Pass, image: &[u8], n: usize, m: usize, out: &mut [u16]) -> usize
-    requires { ⌜ Header (now image) n m ⌝ }
-    ensures { λ r. ⌜ Laid (now (out .entry)) 0 (recordsOf pass (tree (now (image .entry)))) (now (out .exit)) r × (length (now (out .exit)) ≡ length (now (out .entry))) ⌝ }
-{
-    match pass {
-        Pass::Access => access::list(image, n, m, out),
-        Pass::Linear => linear::list(image, n, m, out),
+    let span = spans::of_place(image, head, wide(place));
+    let from = span.from;
+    let to = span.to;
+    Verdict::Refused {
+        code,
+        place,
+        from: from as u32,
+        to: to as u32,
     }
 }
 
-// The verdict of a pass on an admitted image with n nodes and m names.
-fn first_of(pass: Pass, image: &[u8], n: usize, m: usize) -> Verdict
-    requires { ⌜ Header (now image) n m ⌝ }
-    ensures { λ r. ⌜ r ≡ firstOf (now (image .entry)) (recordsOf pass (tree (now (image .entry)))) ⌝ }
+// The verdict of a pass on an admitted image.
+fn first_of(pass: Pass, image: &[u8], head: Image) -> Verdict
+    requires { ⌜ Admitted (now image) head ⌝ }
+    ensures { λ r. ⌜ Judged (recordsOf pass) (old image) r ⌝ }
 {
     let mut out = [0u16; 3];
-    let k = list_of(pass, image, n, m, &mut out);
-    judge(image, n, &out, k)
+    let count = list_of(pass, image, head, &mut out);
+    judge(image, head, &out, count)
 }
 
 fn verdict_of(pass: Pass, image: &[u8]) -> Verdict
-    ensures { λ r. ⌜ r ≡ verdictOf (recordsOf pass) (now (image .entry)) ⌝ }
+    ensures { λ r. ⌜ Judged (recordsOf pass) (old image) r ⌝ }
 {
     match image::admit(image) {
         Admission::Refused(r) => Verdict::Image(r),
-        Admission::Admitted(header) => {
-            let n = header.nodes;
-            let m = header.names;
-            first_of(pass, image, n, m)
-        }
+        Admission::Admitted(head) => first_of(pass, image, head),
     }
+}
+
+// The verdict of the resolve pass.
+pub fn resolve(image: &[u8]) -> Verdict
+    ensures { λ r. ⌜ Judged resolve (old image) r ⌝ }
+{
+    verdict_of(Pass::Resolve, image)
 }
 
 // The verdict of the access pass.
 pub fn access(image: &[u8]) -> Verdict
-    ensures { λ r. ⌜ r ≡ verdictOf access (now (image .entry)) ⌝ }
+    ensures { λ r. ⌜ Judged access (old image) r ⌝ }
 {
     verdict_of(Pass::Access, image)
 }
 
 // The verdict of the linear pass.
 pub fn linear(image: &[u8]) -> Verdict
-    ensures { λ r. ⌜ r ≡ verdictOf linear (now (image .entry)) ⌝ }
+    ensures { λ r. ⌜ Judged linear (old image) r ⌝ }
 {
     verdict_of(Pass::Linear, image)
 }
 
 // The verdicts of all passes.
 pub struct Answers {
+    pub resolve: Verdict,
     pub access: Verdict,
     pub linear: Verdict,
 }
 
 // All verdicts, with one admission.
 pub fn verdicts(image: &[u8]) -> Answers
-    ensures { λ r. ⌜ r ≡ verdictsOf (now (image .entry)) ⌝ }
+    ensures { λ r. ⌜ Judged resolve (old image) (r .resolve) × Judged access (old image) (r .access) × Judged linear (old image) (r .linear) ⌝ }
 {
     match image::admit(image) {
         Admission::Refused(r) => Answers {
+            resolve: Verdict::Image(r),
             access: Verdict::Image(r),
             linear: Verdict::Image(r),
         },
-        Admission::Admitted(header) => {
-            let n = header.nodes;
-            let m = header.names;
-            let access = first_of(Pass::Access, image, n, m);
-            let linear = first_of(Pass::Linear, image, n, m);
-            Answers { access, linear }
+        Admission::Admitted(head) => {
+            let resolve = first_of(Pass::Resolve, image, head);
+            let access = first_of(Pass::Access, image, head);
+            let linear = first_of(Pass::Linear, image, head);
+            Answers {
+                resolve,
+                access,
+                linear,
+            }
+        }
+    }
+}
+
+// How many records a pass has.
+fn count(pass: Pass, image: &[u8], head: Image) -> usize
+    requires { ⌜ Admitted (now image) head ⌝ }
+    ensures { λ r. ⌜ (r ≡ length (recordsOf pass (tree (old image)))) × (r ≤ 2 ^ 38) ⌝ }
+{
+    let mut none = [0u16; 0];
+    list_of(pass, image, head, &mut none)
+}
+
+// How many records all passes have.
+fn count_all(image: &[u8], head: Image) -> usize
+    requires { ⌜ Admitted (now image) head ⌝ }
+    ensures { λ r. ⌜ (r ≡ length (offences (tree (old image)))) × (r ≤ 2 ^ 40) ⌝ }
+{
+    let resolve = count(Pass::Resolve, image, head);
+    let access = count(Pass::Access, image, head);
+    let linear = count(Pass::Linear, image, head);
+    resolve + access + linear
+}
+
+// The records of a pass after `count` others, written into the rest of the buffer from where those stop.
+fn list_after(pass: Pass, image: &[u8], head: Image, words: &mut [u16], count: usize) -> usize
+    requires { ⌜ Admitted (now image) head × (3 * (count + length (recordsOf pass (tree (now image)))) ≤ length (now words)) ⌝ }
+    ensures { λ r. ⌜ Adds (λ (_ : Unit {0}). recordsOf pass (tree (old image))) (2 ^ 38) words count r ⌝ }
+{
+    let start = 3 * count;
+    let end = words.len();
+    let more = list_of(pass, image, head, &mut words[start..end]);
+    count + more
+}
+
+// The records of all passes, each from where the last one stopped.
+fn fill(image: &[u8], head: Image, words: &mut [u16]) -> usize
+    requires { ⌜ Admitted (now image) head × (3 * length (offences (tree (now image))) ≤ length (now words)) ⌝ }
+    ensures { λ r. ⌜ Laid (old words) 0 (offences (tree (old image))) (new words) r ⌝ }
+{
+    let resolve = list_after(Pass::Resolve, image, head, words, 0);
+    let access = list_after(Pass::Access, image, head, words, resolve);
+    list_after(Pass::Linear, image, head, words, access)
+}
+
+// The full list: the records of all passes, or refusal 9 where the buffer has fewer than 3 words for each.
+pub fn list(image: &[u8], words: &mut [u16]) -> Listed
+    ensures { λ r. ⌜ ListedAll (old image) (old words) r (new words) ⌝ }
+{
+    match image::admit(image) {
+        Admission::Refused(r) => Listed::Refused(r),
+        Admission::Admitted(head) => {
+            let size = words.len();
+            let asked = 3 * count_all(image, head);
+            if size < asked {
+                return Listed::Refused(9);
+            }
+            let count = fill(image, head, words);
+            Listed::Records(count)
         }
     }
 }
 
 // A pass's part of the list, from the buffer's start: what fits is written, all is counted.
 fn part_of(pass: Pass, image: &[u8], words: &mut [u16]) -> Listed
-    ensures { λ r. ⌜ (r ≡ listedOf (recordsOf pass) (now (image .entry))) × (now (words .exit) ≡ wordsOf (recordsOf pass) (now (image .entry)) (now (words .entry))) ⌝ }
+    ensures { λ r. ⌜ ListedPart (recordsOf pass) (old image) (old words) r (new words) ⌝ }
 {
     match image::admit(image) {
         Admission::Refused(r) => Listed::Refused(r),
-        Admission::Admitted(header) => {
-            let n = header.nodes;
-            let m = header.names;
-            Listed::Records(list_of(pass, image, n, m, words))
-        }
+        Admission::Admitted(head) => Listed::Records(list_of(pass, image, head, words)),
     }
+}
+
+// The resolve pass's part of the list.
+pub fn resolve_list(image: &[u8], words: &mut [u16]) -> Listed
+    ensures { λ r. ⌜ ListedPart resolve (old image) (old words) r (new words) ⌝ }
+{
+    part_of(Pass::Resolve, image, words)
 }
 
 // The access pass's part of the list.
 pub fn access_list(image: &[u8], words: &mut [u16]) -> Listed
-    ensures { λ r. ⌜ (r ≡ listedOf access (now (image .entry))) × (now (words .exit) ≡ wordsOf access (now (image .entry)) (now (words .entry))) ⌝ }
+    ensures { λ r. ⌜ ListedPart access (old image) (old words) r (new words) ⌝ }
 {
     part_of(Pass::Access, image, words)
 }
 
 // The linear pass's part of the list.
 pub fn linear_list(image: &[u8], words: &mut [u16]) -> Listed
-    ensures { λ r. ⌜ (r ≡ listedOf linear (now (image .entry))) × (now (words .exit) ≡ wordsOf linear (now (image .entry)) (now (words .entry))) ⌝ }
+    ensures { λ r. ⌜ ListedPart linear (old image) (old words) r (new words) ⌝ }
 {
     part_of(Pass::Linear, image, words)
 }
 
-// Whether the name is that of a state field.
-pub fn is_state(image: &[u8], name: &[u8]) -> Reply
-    ensures { λ r. ⌜ r ≡ replyOf isState (now (image .entry)) (now (name .entry)) ⌝ }
-{
-    match image::admit(image) {
-        Admission::Refused(r) => Reply::Image(r),
-        Admission::Admitted(header) => {
-            let n = header.nodes;
-            let m = header.names;
-            yes_no(model::is_state(image, n, m, name))
-        }
-    }
+// The questions about a name.
+enum Question {
+    State,
+    Declared,
+    Known,
 }
 
-// Whether the name is that of an Asset item.
-pub fn is_declared_asset(image: &[u8], name: &[u8]) -> Reply
-    ensures { λ r. ⌜ r ≡ replyOf isDeclaredAsset (now (image .entry)) (now (name .entry)) ⌝ }
+// What the model of an admitted image answers.
+fn holds(question: Question, image: &[u8], head: Image, name: &[u8]) -> bool
+    requires { ⌜ Admitted (now image) head ⌝ }
+    ensures { λ r. ⌜ r ≡ questionOf question (tree (old image)) (old name) ⌝ }
 {
-    match image::admit(image) {
-        Admission::Refused(r) => Reply::Image(r),
-        Admission::Admitted(header) => {
-            let n = header.nodes;
-            let m = header.names;
-            yes_no(model::is_declared_asset(image, n, m, name))
-        }
-    }
-}
-
-// Whether the name is that of a known asset.
-pub fn is_known_asset(image: &[u8], name: &[u8]) -> Reply
-    ensures { λ r. ⌜ r ≡ replyOf isKnownAsset (now (image .entry)) (now (name .entry)) ⌝ }
-{
-    match image::admit(image) {
-        Admission::Refused(r) => Reply::Image(r),
-        Admission::Admitted(header) => {
-            let n = header.nodes;
-            let m = header.names;
-            yes_no(model::is_known_asset(image, n, m, name))
-        }
+    match question {
+        Question::State => model::is_state(image, head, name),
+        Question::Declared => model::is_declared_asset(image, head, name),
+        Question::Known => model::is_known_asset(image, head, name),
     }
 }
 
@@ -225,4 +282,34 @@ fn yes_no(yes: bool) -> Reply
     ensures { λ r. ⌜ r ≡ yesNo yes ⌝ }
 {
     if yes { Reply::Yes } else { Reply::No }
+}
+
+fn reply_of(question: Question, image: &[u8], name: &[u8]) -> Reply
+    ensures { λ r. ⌜ Replied (questionOf question) (old image) (old name) r ⌝ }
+{
+    match image::admit(image) {
+        Admission::Refused(r) => Reply::Image(r),
+        Admission::Admitted(head) => yes_no(holds(question, image, head, name)),
+    }
+}
+
+// Whether the name is that of a state field.
+pub fn is_state(image: &[u8], name: &[u8]) -> Reply
+    ensures { λ r. ⌜ Replied isState (old image) (old name) r ⌝ }
+{
+    reply_of(Question::State, image, name)
+}
+
+// Whether the name is that of an Asset item.
+pub fn is_declared_asset(image: &[u8], name: &[u8]) -> Reply
+    ensures { λ r. ⌜ Replied isDeclaredAsset (old image) (old name) r ⌝ }
+{
+    reply_of(Question::Declared, image, name)
+}
+
+// Whether the name is that of a known asset.
+pub fn is_known_asset(image: &[u8], name: &[u8]) -> Reply
+    ensures { λ r. ⌜ Replied isKnownAsset (old image) (old name) r ⌝ }
+{
+    reply_of(Question::Known, image, name)
 }

@@ -4,16 +4,17 @@
 use std::hint::black_box;
 use std::time::{Duration, Instant};
 
-const ROUNDS: usize = 25;
-const ROUND: Duration = Duration::from_millis(4);
+const ROUNDS: usize = 300;
+/// Short, since a round only counts where nothing else took the processor while it ran.
+const ROUND: Duration = Duration::from_millis(1);
 
 /// A thing to time. What it gives back is kept from being optimised away.
 pub type Work<'a> = Box<dyn Fn() -> u64 + 'a>;
 
 /// Nanoseconds that each takes, in its best round.
-pub fn interleaved(works: &[Work]) -> Vec<f64> {
-    let repeats: Vec<u32> = works.iter().map(|w| repeats_in_a_round(w)).collect();
-    let mut best = vec![f64::INFINITY; works.len()];
+pub fn interleaved<const N: usize>(works: &[Work; N]) -> [f64; N] {
+    let repeats = works.each_ref().map(repeats_in_a_round);
+    let mut best = [f64::INFINITY; N];
     for _ in 0..ROUNDS {
         for ((work, repeats), best) in works.iter().zip(&repeats).zip(&mut best) {
             *best = best.min(nanoseconds(work, *repeats));

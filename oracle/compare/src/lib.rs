@@ -5,6 +5,10 @@
 pub mod images;
 pub mod judge;
 pub mod patterns;
+#[cfg(feature = "port")]
+pub mod port;
+#[cfg(not(feature = "port"))]
+#[path = "unlinked.rs"]
 pub mod port;
 pub mod report;
 pub mod rust;

@@ -10,9 +10,10 @@ compare rust [--images N] [--seed S]
 compare patterns
     what document 01 says by hand against both
 compare report PATH [--lines image,resolve,access,linear,list,records] [--images N] [--seed S]
-    the reference against the report program at PATH, by the lines that it prints so far
-compare port [--what refusal,questions,access,linear,access_list,linear_list] [--images N] [--seed S]
-    the reference against the proved library, by what is linked
+    the reference against the report program at PATH, which prints all lines unless some are named
+compare port [--what GROUP,GROUP..] [--images N] [--seed S]
+    the reference against the proved library, in all groups or in those named: refusal, questions,
+    verdicts, resolve, access, linear, list, resolve_list, access_list, linear_list
 compare show FILE
     the tree of an image and the reference's report
 ";

@@ -1,5 +1,5 @@
-//! `compare report`: the reference's report against what the program prints. The program grows, so
-//! the lines that it prints so far are named, and the reference's report is cut to these.
+//! `compare report`: the reference's report against all that the program prints. Of a program that
+//! prints only some lines these can be named, and the reference's report is cut to them.
 
 use crate::images::{Range, all_classes};
 use crate::mismatch::{Mismatch, same, shown};
@@ -9,7 +9,7 @@ use std::process::{Command, Stdio};
 /// The lines of a report by their first word; a record's line begins with a number.
 const LINES: [&str; 6] = ["image", "resolve", "access", "linear", "list", "records"];
 
-/// Runs the program at `path` once for each image.
+/// Runs the program at `path` once for each image; it prints all lines unless some are named.
 pub fn run(path: &str, lines: Option<&[&str]>, range: Range) -> Result<String, String> {
     let lines = lines.unwrap_or(&LINES);
     if let Some(unknown) = lines.iter().find(|l| !LINES.contains(l)) {

@@ -3,7 +3,9 @@
 use compare::images::Range;
 use compare::judge;
 use compare::shrink::shrink;
+use generate::CODES;
 use generate::build::*;
+use generate::patterns::{Pattern, patterns};
 use quanta_typeck::conserve;
 use quanta_typeck::model::Model;
 use quanta_typeck::signature::lend;
@@ -12,6 +14,33 @@ use reference::{Pass, kind};
 #[test]
 fn patterns_and_limits_hold() {
     assert!(compare::patterns::run().is_ok());
+}
+
+/// A list that ends an item at its first offence of a rule would pass if no item had two. Rules 21
+/// and 23 stand at an item's one Name; each of the others is broken twice by some item.
+#[test]
+fn each_rule_is_broken_twice_in_an_item() {
+    for code in CODES.into_iter().filter(|code| ![21, 23].contains(code)) {
+        assert!(patterns().iter().any(|p| twice_in_an_item(p, code)), "code {code}");
+    }
+}
+
+fn twice_in_an_item(pattern: &Pattern, code: u16) -> bool {
+    let image = pattern.tree.image();
+    let tree = reference::admit(&image).expect("admitted");
+    let list = pattern.list();
+    tree.children(0).any(|item| {
+        let within = |place: u16| (item..tree.end(item)).contains(&usize::from(place));
+        list.iter().filter(|r| r.code == code && within(r.place)).count() > 1
+    })
+}
+
+/// A group that is not there is an error, and so is every group where the library is not linked.
+#[test]
+fn only_what_is_linked_is_compared() {
+    let by_hand = Range { images: 0, seed: 1 };
+    assert!(compare::port::run(Some(&["refusal", "refusals"]), by_hand).is_err());
+    assert_eq!(compare::port::run(None, by_hand).is_ok(), cfg!(feature = "port"));
 }
 
 /// The run fails as well when a code, an acceptance or a refusal comes too seldom.

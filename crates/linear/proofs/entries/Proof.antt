@@ -14,13 +14,13 @@ use Rattle.rules.specs.Sweep.{either, keep, has, same}
 use Rattle.rules.specs.Tree.{Tree, tree, entry}
 use Rattle.rules.specs.Vocabulary.{Below}
 use Rattle.rules.specs.Linear.{isCounted, second, linearEntry, linear}
-use Rattle.nodes.specs.Shown.{View, In, treeOf, number}
-use Rattle.nodes.specs.Marks.{Marks}
-use Rattle.nodes.proofs.Parts.{past, kind-is, end-is, number-is, few, inside, there, lent-below, lent-in}
-use Rattle.nodes.proofs.Shapes.{within, ends-within}
-use Rattle.nodes.proofs.Names.{marks-as, marks-set, same-is, same-not, either-false}
-use Rattle.records.proofs.Sweep.{Sweeping, sweep-starts, sweep-on, sweep-done, laid-skip, laid-keep, laid-below, has-one, has-not, keep-none}
-use Rattle.model.proofs.Said.{small}
+use Rattle.linear_nodes.specs.Shown.{View, In, treeOf, number}
+use Rattle.linear_nodes.specs.Marks.{Marks}
+use Rattle.linear_nodes.proofs.Parts.{past, kind-is, end-is, number-is, few, inside, there, lent-below, lent-in}
+use Rattle.linear_nodes.proofs.Shapes.{within, ends-within}
+use Rattle.linear_nodes.proofs.Names.{marks-as, marks-set, same-is, same-not, either-false}
+use Rattle.linear_records.proofs.Sweep.{Sweeping, sweep-starts, sweep-on, sweep-done, laid-skip, laid-keep, laid-below, has-one, has-not, keep-none}
+use Rattle.linear_model.proofs.Said.{small}
 use Rattle.occurrences.specs.Counting.{Counting, isReader}
 use Rattle.rows.specs.Tracked.{Within, Rows, Blank}
 use Rattle.tracked.specs.Held.{rowsOf, Held, Tracks, Aliasing}
@@ -34,7 +34,7 @@ use Rattle.linear.proofs.entries.Reads as reads
 use Rattle.linear.proofs.entries.Lts as lts
 use Rattle.linear.proofs.after.Reads as after-reads
 use Rattle.linear.proofs.entry_turn.Reads as entry-turn-reads
-use Rattle.nodes.proofs.end.Reads as end-reads
+use Rattle.linear_nodes.proofs.end.Reads as end-reads
 
 abbrev Inv-loop : tie.InvT-loop
 Inv-loop q split mint part b reader burned₀ flags₀ names₀ places₀ marks₀ counts₀ seconds₀ first₀ last₀ out₀ k e at₀ p₀ burned flags names places marks counts seconds first last out at p = Sweeping (λ (T : Begun part b q split mint reader burned₀) i. keep (has (treeOf (T .view) .kind i) entry) (linearEntry (treeOf (T .view))) i) 1 e 2559 out₀ k out at p × Unflagged flags p × Store names places marks counts seconds first last × (length burned ≡ 1024) × ((T : Begun part b q split mint reader burned₀) → Marks (T .view .image) (λ w. false) burned)

@@ -1,5 +1,5 @@
 use borrow.Author.Needs.{needs}
-use Rattle.nodes.proofs.Parts.{formed}
+use Rattle.linear_nodes.proofs.Parts.{formed}
 use native.Mathlib.Omega.{arith}
 use mathlib.Core.Path.{_≡_, _∙_, sym, ap, refl, subst}
 use mathlib.Core.Bool.{Bool, true, false, true≢false}
@@ -14,13 +14,13 @@ use Rattle.rules.specs.Sweep.{either, keep, has, same}
 use Rattle.rules.specs.Tree.{Tree, tree, entry}
 use Rattle.rules.specs.Vocabulary.{Below}
 use Rattle.rules.specs.Linear.{isCounted, second, linearEntry, linear}
-use Rattle.nodes.specs.Shown.{View, In, treeOf, number}
-use Rattle.nodes.specs.Marks.{Marks}
-use Rattle.nodes.proofs.Parts.{past, kind-is, end-is, number-is, few, inside, there, lent-below, lent-in}
-use Rattle.nodes.proofs.Shapes.{within, ends-within}
-use Rattle.nodes.proofs.Names.{marks-as, marks-set, same-is, same-not, either-false}
-use Rattle.records.proofs.Sweep.{Sweeping, sweep-starts, sweep-on, sweep-done, laid-skip, laid-keep, laid-below, has-one, has-not, keep-none}
-use Rattle.model.proofs.Said.{small}
+use Rattle.linear_nodes.specs.Shown.{View, In, treeOf, number}
+use Rattle.linear_nodes.specs.Marks.{Marks}
+use Rattle.linear_nodes.proofs.Parts.{past, kind-is, end-is, number-is, few, inside, there, lent-below, lent-in}
+use Rattle.linear_nodes.proofs.Shapes.{within, ends-within}
+use Rattle.linear_nodes.proofs.Names.{marks-as, marks-set, same-is, same-not, either-false}
+use Rattle.linear_records.proofs.Sweep.{Sweeping, sweep-starts, sweep-on, sweep-done, laid-skip, laid-keep, laid-below, has-one, has-not, keep-none}
+use Rattle.linear_model.proofs.Said.{small}
 use Rattle.occurrences.specs.Counting.{Counting, isReader}
 use Rattle.rows.specs.Tracked.{Within, Rows, Blank}
 use Rattle.tracked.specs.Held.{rowsOf, Held, Tracks, Aliasing}

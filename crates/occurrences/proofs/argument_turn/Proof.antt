@@ -3,8 +3,8 @@ use native.Mathlib.Omega.{arith}
 use mathlib.Core.Path.{_∙_}
 use Prim.Native.Nat.{_<_}
 use lib.ListN.{length-set}
-use Rattle.nodes.specs.Shown.{View, treeOf}
-use Rattle.nodes.proofs.Parts.{end-is, past, few}
+use Rattle.linear_nodes.specs.Shown.{View, treeOf}
+use Rattle.linear_nodes.proofs.Parts.{end-is, past, few}
 use borrow.Author.Needs.{needs}
 use Rattle.occurrences.proofs.Flags.{flagged-as, flagged-none, flagged-one}
 use Rattle.occurrences.proofs.Laws.{peels-over, peels-so}

@@ -8,12 +8,12 @@ use Rattle.image.specs.Node.{endOf}
 use Rattle.image.proofs.Walk.{Stepped, child-is, end-is as stop-is}
 use Rattle.rules.specs.Sweep.{also}
 use Rattle.rules.specs.Vocabulary.{isChild}
-use Rattle.nodes.specs.Shown.{View, In, treeOf}
-use Rattle.nodes.proofs.Parts.{kind-is, end-is, past, few}
-use Rattle.nodes.proofs.Shapes.{within, ends-within}
-use Rattle.model.proofs.Said.{small}
+use Rattle.linear_nodes.specs.Shown.{View, In, treeOf}
+use Rattle.linear_nodes.proofs.Parts.{kind-is, end-is, past, few}
+use Rattle.linear_nodes.proofs.Shapes.{within, ends-within}
+use Rattle.linear_model.proofs.Said.{small}
 use Rattle.occurrences.specs.Flags.{peelsTo}
-use Rattle.model.proofs.Called.{callee-in}
+use Rattle.linear_model.proofs.Called.{callee-in}
 use Rattle.occurrences.proofs.Flags.{Flagging, flagging-starts, flagging-on, flagging-done, flagged-as, flagged-keep}
 use Rattle.occurrences.proofs.Children.{Reached, is-child, no-child, reached-on, reached-first, flagged-arguments}
 use Rattle.occurrences.proofs.arguments.Statement.{statement}

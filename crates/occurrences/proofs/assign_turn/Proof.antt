@@ -4,10 +4,10 @@ use mathlib.Core.Path.{_≡_, _∙_, sym, ap}
 use Prim.Native.Nat.{ℕ, _+_, _<_}
 use lib.Dec.{eqb}
 use lib.ListN.{length-set}
-use Rattle.nodes.specs.Shown.{View, In, treeOf}
-use Rattle.nodes.proofs.Parts.{kind-is, end-is}
-use Rattle.records.proofs.Sweep.{has-one, has-not}
-use Rattle.model.proofs.Said.{small}
+use Rattle.linear_nodes.specs.Shown.{View, In, treeOf}
+use Rattle.linear_nodes.proofs.Parts.{kind-is, end-is}
+use Rattle.linear_records.proofs.Sweep.{has-one, has-not}
+use Rattle.linear_model.proofs.Said.{small}
 use borrow.Author.Needs.{needs}
 use Rattle.occurrences.specs.Flags.{isValue}
 use Rattle.occurrences.proofs.Flags.{flagged-as, flagged-one, flagged-skip, flagged-keep}

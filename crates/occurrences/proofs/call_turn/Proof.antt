@@ -4,9 +4,9 @@ use mathlib.Core.Bool.{Bool, true, not}
 use Rattle.image.specs.Pick.{both}
 use Rattle.rules.specs.Sweep.{has}
 use Rattle.rules.specs.Tree.{call}
-use Rattle.nodes.specs.Shown.{View, treeOf}
-use Rattle.nodes.proofs.Parts.{kind-is}
-use Rattle.records.proofs.Sweep.{has-one, has-not}
+use Rattle.linear_nodes.specs.Shown.{View, treeOf}
+use Rattle.linear_nodes.proofs.Parts.{kind-is}
+use Rattle.linear_records.proofs.Sweep.{has-one, has-not}
 use borrow.Author.Needs.{needs}
 use Rattle.occurrences.specs.Flags.{isTaken, isConsumed}
 use Rattle.occurrences.proofs.Flags.{flagged-as, flagged-none, flagged-skip, flagged-keep}

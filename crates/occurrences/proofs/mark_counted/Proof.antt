@@ -9,12 +9,12 @@ use Rattle.rules.specs.Sweep.{also, has}
 use Rattle.rules.specs.All.{parts}
 use Rattle.rules.specs.Tree.{statement as statements}
 use Rattle.rules.specs.Words.{readers}
-use Rattle.nodes.specs.Shown.{View, In, treeOf}
-use Rattle.nodes.proofs.Parts.{few, there}
-use Rattle.nodes.proofs.Shapes.{next-here, allIn, not-part}
-use Rattle.model.proofs.Said.{small}
+use Rattle.linear_nodes.specs.Shown.{View, In, treeOf}
+use Rattle.linear_nodes.proofs.Parts.{few, there}
+use Rattle.linear_nodes.proofs.Shapes.{next-here, allIn, not-part}
+use Rattle.linear_model.proofs.Said.{small}
 use Rattle.occurrences.specs.Counting.{Counting}
-use Rattle.model.specs.Called.{Words}
+use Rattle.linear_model.specs.Called.{Words}
 use Rattle.occurrences.specs.Flags.{countsIn}
 use Rattle.occurrences.proofs.Flags.{Flagging, flagging-starts, flagging-on, flagging-done, flagged-as}
 use Rattle.occurrences.proofs.Laws.{counted-is}

@@ -5,12 +5,12 @@ use mathlib.Core.Path.{_≡_, _∙_, sym, ap, refl}
 use Prim.Native.Nat.{ℕ, _+_, _-_}
 use Rattle.rules.specs.Sweep.{also, has}
 use Rattle.rules.specs.Tree.{call, statement as statements}
-use Rattle.nodes.specs.Shown.{View, treeOf}
-use Rattle.nodes.proofs.Parts.{past, kind-is, end-is}
-use Rattle.nodes.proofs.Shapes.{within}
-use Rattle.nodes.proofs.Down.{not-true, not-false}
-use Rattle.model.proofs.Said.{small}
-use Rattle.model.specs.Called.{Words}
+use Rattle.linear_nodes.specs.Shown.{View, treeOf}
+use Rattle.linear_nodes.proofs.Parts.{past, kind-is, end-is}
+use Rattle.linear_nodes.proofs.Shapes.{within}
+use Rattle.linear_nodes.proofs.Down.{not-true, not-false}
+use Rattle.linear_model.proofs.Said.{small}
+use Rattle.linear_model.specs.Called.{Words}
 use Rattle.occurrences.specs.Flags.{isConsumed, countsIn}
 use Rattle.occurrences.proofs.Laws.{flagged-statement}
 use Rattle.occurrences.proofs.Flags.{Flagging, flagging-starts, flagging-again, flagging-done, flagged-skip, flagged-keep, flagged-below}

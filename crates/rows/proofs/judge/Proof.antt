@@ -6,7 +6,7 @@ use Prim.Native.Nat.{ℕ, _+_, _*_, _-_, _≤_, _<_}
 use lib.ListN.{length, getD, set, length-set}
 use lib.Seq.{getD-set-same, getD-set-other}
 use Rattle.rows.specs.Ruled.{ruledAt}
-use Rattle.records.proofs.Sweep.{Sweeping, sweep-starts, sweep-again, sweep-done}
+use Rattle.linear_records.proofs.Sweep.{Sweeping, sweep-starts, sweep-again, sweep-done}
 use Rattle.rows.proofs.judge.Statement.{statement}
 use Rattle.rows.proofs.judge.Tie as tie
 use Rattle.rows.proofs.judge.Reads as reads

@@ -1,4 +1,4 @@
-use Rattle.records.proofs.Laws.{laid-long}
+use Rattle.linear_records.proofs.Laws.{laid-long}
 use borrow.Author.Needs.{needs}
 use native.Mathlib.Omega.{arith}
 use mathlib.Core.Path.{_≡_, _∙_, sym, ap, refl}
@@ -12,7 +12,7 @@ use Rattle.rows.proofs.judge_turn.Statement.{statement}
 use Rattle.rows.proofs.judge_turn.Tie as tie
 use Rattle.rows.proofs.judge_turn.Reads as reads
 use Rattle.rows.proofs.judge_turn.Lts as lts
-use Rattle.records.proofs.emit.Reads as emit-reads
+use Rattle.linear_records.proofs.emit.Reads as emit-reads
 use Rattle.rows.proofs.wide.Reads as wide-reads
 
 -- src/lib.rt:105:18

@@ -12,14 +12,14 @@ use Rattle.image.specs.Node.{kindOf, nameOf, endOf}
 use Rattle.rules.specs.Sweep.{also, has}
 use Rattle.rules.specs.Tree.{Tree, tree, param, ident}
 use Rattle.rules.specs.Linear.{isBurned, isCounted}
-use Rattle.nodes.specs.Shown.{View, In, treeOf, number}
-use Rattle.nodes.proofs.Parts.{past, kind-is, end-is, number-is, few, inside, there, ranged, tells}
-use Rattle.nodes.proofs.Shapes.{within, named-first, Next, next-is, allIn, not-part}
-use Rattle.nodes.proofs.Children.{param-type}
-use Rattle.nodes.proofs.Down.{not-true, not-false}
-use Rattle.records.proofs.Sweep.{has-one, has-not}
-use Rattle.model.proofs.Said.{small, name-in}
-use Rattle.model.specs.Inner.{Assets, InnerIs}
+use Rattle.linear_nodes.specs.Shown.{View, In, treeOf, number}
+use Rattle.linear_nodes.proofs.Parts.{past, kind-is, end-is, number-is, few, inside, there, ranged, tells}
+use Rattle.linear_nodes.proofs.Shapes.{within, named-first, Next, next-is, allIn, not-part}
+use Rattle.linear_nodes.proofs.Children.{param-type}
+use Rattle.linear_nodes.proofs.Down.{not-true, not-false}
+use Rattle.linear_records.proofs.Sweep.{has-one, has-not}
+use Rattle.linear_model.proofs.Said.{small, name-in}
+use Rattle.linear_model.specs.Inner.{Assets, InnerIs}
 use Rattle.tallies.specs.Tally.{hits, hit, burnHit, useHit, Room, Ready, Burning, Unburned, Flagged}
 use Rattle.tallies.proofs.Counting.{Tallying, tally-starts, tally-on, tally-done, seconds-start, seconds-on, room-of}
 use Rattle.tallies.proofs.Hits.{burn-other, burn-fails, burn-so, use-other, use-fails, use-so, stays, stays-second, grows, burned-none, burned-so}
@@ -27,8 +27,8 @@ use Rattle.tallies.proofs.count_turn.Statement.{statement}
 use Rattle.tallies.proofs.count_turn.Tie as tie
 use Rattle.tallies.proofs.count_turn.Reads as reads
 use Rattle.tallies.proofs.count_turn.Lts as lts
-use Rattle.nodes.proofs.kind.Reads as kind-reads
-use Rattle.nodes.proofs.name.Reads as name-reads
+use Rattle.linear_nodes.proofs.kind.Reads as kind-reads
+use Rattle.linear_nodes.proofs.name.Reads as name-reads
 use Rattle.rows.proofs.bump.Reads as bump-reads
 use Rattle.rows.proofs.note_second.Reads as note-second-reads
 

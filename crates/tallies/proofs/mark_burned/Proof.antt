@@ -10,16 +10,16 @@ use Rattle.rules.specs.All.{parts}
 use Rattle.rules.specs.Sweep.{has}
 use Rattle.rules.specs.Tree.{burns}
 use Rattle.rules.specs.Vocabulary.{someBelow, named}
-use Rattle.nodes.specs.Shown.{View, treeOf}
-use Rattle.nodes.specs.First.{NameFirst}
-use Rattle.nodes.specs.Marks.{Marks}
-use Rattle.nodes.proofs.Names.{marks-as}
+use Rattle.linear_nodes.specs.Shown.{View, treeOf}
+use Rattle.linear_nodes.specs.First.{NameFirst}
+use Rattle.linear_nodes.specs.Marks.{Marks}
+use Rattle.linear_nodes.proofs.Names.{marks-as}
 use Rattle.tallies.specs.Tally.{Burning, Unburned}
 use Rattle.tallies.proofs.mark_burned.Statement.{statement}
 use Rattle.tallies.proofs.mark_burned.Tie as tie
 use Rattle.tallies.proofs.mark_burned.Reads as reads
 use Rattle.tallies.proofs.mark_burned.Lts as lts
-use Rattle.model.proofs.mark_clauses.Reads as mark-clauses-reads
+use Rattle.linear_model.proofs.mark_clauses.Reads as mark-clauses-reads
 use Rattle.tallies.proofs.burn_marks.Reads as burn-marks-reads
 
 burns-named : NameFirst 18

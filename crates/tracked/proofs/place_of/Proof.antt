@@ -10,21 +10,21 @@ use lib.ListN.{length, getD, set}
 use Rattle.image.specs.Node.{kindOf, nameOf, endOf}
 use Rattle.rules.specs.Sweep.{keep, has}
 use Rattle.rules.specs.Tree.{«let», param-let}
-use Rattle.nodes.specs.Shown.{View, In, treeOf, number}
-use Rattle.nodes.proofs.Parts.{past, kind-is, end-is, number-is, few, inside, there, ranged}
-use Rattle.nodes.proofs.Shapes.{within, ends-within, named-first, field-name, first-in, Next, next-is, allIn, not-part}
-use Rattle.nodes.proofs.Children.{let-value, callee-in, param-type}
-use Rattle.nodes.proofs.Down.{not-true, not-false}
-use Rattle.records.proofs.Sweep.{Sweeping, sweep-starts, sweep-on, sweep-done, laid-skip, laid-keep, laid-below, has-one, has-not, keep-none}
-use Rattle.model.proofs.Said.{small, said, name-in}
-use Rattle.model.specs.Inner.{Assets}
+use Rattle.linear_nodes.specs.Shown.{View, In, treeOf, number}
+use Rattle.linear_nodes.proofs.Parts.{past, kind-is, end-is, number-is, few, inside, there, ranged}
+use Rattle.linear_nodes.proofs.Shapes.{within, ends-within, named-first, field-name, first-in, Next, next-is, allIn, not-part}
+use Rattle.linear_nodes.proofs.Children.{let-value, callee-in, param-type}
+use Rattle.linear_nodes.proofs.Down.{not-true, not-false}
+use Rattle.linear_records.proofs.Sweep.{Sweeping, sweep-starts, sweep-on, sweep-done, laid-skip, laid-keep, laid-below, has-one, has-not, keep-none}
+use Rattle.linear_model.proofs.Said.{small, said, name-in}
+use Rattle.linear_model.specs.Inner.{Assets}
 use Rattle.tracked.specs.Held.{rowAt, rowsOf, isMaker, Held, Makers, Tracks, Aliasing}
 use Rattle.tracked.proofs.Laws.{type-name, param-typed, maker-field, maker-ident, maker-other, bottom-over, bottom-so, produces-over, produces-other, produces-so, row-param, row-let, row-other, row-none, row-here, place-let, place-param, held-as, held-on, Tracking, tracking-starts, tracking-on, tracking-done}
 use Rattle.tracked.proofs.place_of.Statement.{statement}
 use Rattle.tracked.proofs.place_of.Tie as tie
 use Rattle.tracked.proofs.place_of.Reads as reads
 use Rattle.tracked.proofs.place_of.Lts as lts
-use Rattle.nodes.proofs.kind.Reads as kind-reads
+use Rattle.linear_nodes.proofs.kind.Reads as kind-reads
 
 -- src/lib.rt:82:8
 kind-requires : tie.Need-kind-requires

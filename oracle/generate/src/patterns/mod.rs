@@ -1,13 +1,14 @@
 //! Contracts written by hand with the full list that document 01 gives them, by hand too: P1 to
 //! P14, each half (`page`); W, what the page calls tempting and wrong (`tempting`); S, the readings
-//! that DESIGN.md settles and that no verdict shows, since a verdict ends at the first offence
-//! (`settled`).
+//! that docs/RULES.md settles and that no verdict shows, since a verdict ends at the first offence
+//! (`settled`); M, more than one offence of a rule in one item (`several`).
 //!
 //! A place is named by a mark on its node. A list is written as `25ba 61x`: the code, the mark of
 //! the place, and the mark of the related node where there is one.
 
 mod page;
 mod settled;
+mod several;
 mod tempting;
 
 pub use page::p2;
@@ -42,7 +43,7 @@ impl Pattern {
 
 /// All of them.
 pub fn patterns() -> Vec<Pattern> {
-    [page::all(), tempting::all(), settled::all()].into_iter().flatten().collect()
+    [page::all(), tempting::all(), settled::all(), several::all()].into_iter().flatten().collect()
 }
 
 fn pattern(name: &'static str, items: Vec<Node>, list: &'static str) -> Pattern {

@@ -1,5 +1,4 @@
-//! DESIGN.md, "Readings that document 01 leaves open, settled", and what else only a full list
-//! shows.
+//! docs/RULES.md, "Readings that document 01 leaves open", and what else only a full list shows.
 
 use super::*;
 use pack::{ident, leaf, number};

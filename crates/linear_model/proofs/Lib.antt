@@ -1,0 +1,4 @@
+pub mod Heads
+pub mod Said
+pub mod Called
+pub mod Marked

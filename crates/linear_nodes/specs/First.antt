@@ -1,0 +1,21 @@
+-- What comes first: the kinds whose first child is a Name, by document 01's table of children; the first statement of an entry.
+use Prim.Native.Nat.{ℕ, _<_, _≤_}
+use mathlib.Core.Path.{_≡_}
+use mathlib.Core.Bool.{true, false}
+use mathlib.Core.List.{List, [], _∷_}
+use Rattle.rules.specs.Sweep.{has}
+use Rattle.rules.specs.Tree.{statement}
+use Rattle.linear_nodes.specs.Shown.{View, treeOf}
+
+-- Asset, FieldDecl, Event, Entry, Param, Type, Conserves, Mints, Burns, Let, Emit
+abbrev pub nameFirst : List ℕ
+nameFirst = 2 ∷ 4 ∷ 5 ∷ 9 ∷ 10 ∷ 11 ∷ 16 ∷ 17 ∷ 18 ∷ 25 ∷ 26 ∷ []
+
+abbrev pub NameFirst : ℕ → Type 0
+NameFirst k = (k < 46) × (has k nameFirst ≡ true)
+
+-- r is in the range of node p, or its end, and no statement stands before it
+pub record Starts {part : List ℕ} {b : ℕ} (W : View part b) (p r : ℕ) : Type 0 where
+  pub after : p < r
+  pub inside : r ≤ treeOf W .end p
+  pub none : (i : ℕ) → p < i → i < r → has (treeOf W .kind i) statement ≡ false

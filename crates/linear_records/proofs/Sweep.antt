@@ -1,0 +1,162 @@
+-- A sweep over the nodes from a on: what it has laid, one invariant for every loop, and what stands below a node.
+use Prim.Native.Nat.{ℕ, zero, suc, _+_, _*_, _-_, _<_, _≤_}
+use mathlib.Core.List.{List, [], _∷_, _++_, append-nil, append-assoc}
+use mathlib.Core.Path.{_≡_, refl, ap, _∙_, sym}
+use mathlib.Core.Bool.{Bool, true, false}
+use lib.ListN.{length}
+use native.Mathlib.Nat.{sub-self}
+use native.Mathlib.Numerals.{add-one, unary-clauses}
+use native.Mathlib.Omega.{arith}
+use borrow.Author.Tests.{eq-eqb, ne-eqb}
+use Rattle.rules.specs.Sweep.{run, keep, has}
+use Rattle.rules.specs.Tree.{Tree}
+use Rattle.rules.specs.Vocabulary.{Rec, below}
+use Rattle.linear_records.specs.Records.{Laid}
+use Rattle.linear_records.proofs.Laws.{laid-none, laid-join, laid-as}
+
+run-none : {A : Type 0} (f : ℕ → List A) (a : ℕ) → run f a 0 ≡ []
+unfolding run
+run-none f a = refl
+
+pub run-next : {A : Type 0} (f : ℕ → List A) (a n : ℕ) → run f a (n + 1) ≡ run f a n ++ f (a + n)
+unfolding run
+run-next f a n = ap (run f a) (add-one n)
+
+-- nodes that contribute nothing can be left out, at the front of a range or at its back
+run-empty : {A : Type 0} (f : ℕ → List A) (a n : ℕ) → ((i : ℕ) → a ≤ i → i < a + n → f i ≡ []) → run f a n ≡ []
+unfolding run
+run-empty f a zero h = refl
+run-empty f a (suc n) h = rw (run-empty f a n (λ i l g. h i l (omega arith))) (h (a + n) (omega arith) (omega arith))
+
+pub run-split : {A : Type 0} (f : ℕ → List A) (a m n : ℕ) → run f a (m + n) ≡ run f a m ++ run f (a + m) n
+unfolding run
+run-split f a m zero = let e : m + zero ≡ m = omega arith in ap (run f a) e ∙ sym (append-nil (run f a m))
+run-split {A} f a m (suc n) =
+    let e : m + suc n ≡ suc (m + n) = omega arith in
+    let z : a + (m + n) ≡ a + m + n = omega arith in
+    ap (run f a) e ∙ ap (λ (l : List A). l ++ f (a + (m + n))) (run-split f a m n) ∙ append-assoc (run f a m) (run f (a + m) n) (f (a + (m + n)))
+    ∙ ap (λ (j : ℕ). run f a m ++ (run f (a + m) n ++ f j)) z
+
+pub run-parts : {A : Type 0} (f : ℕ → List A) (a b e : ℕ) → a ≤ b → b ≤ e → run f a (e - a) ≡ run f a (b - a) ++ run f b (e - b)
+run-parts {A} f a b e l h =
+    let x : e - a ≡ b - a + (e - b) = omega arith in
+    let y : a + (b - a) ≡ b = omega arith in
+    ap (run f a) x ∙ run-split f a (b - a) (e - b) ∙ ap (λ (j : ℕ). run f a (b - a) ++ run f j (e - b)) y
+
+pub run-later : {A : Type 0} (f : ℕ → List A) (a b e : ℕ) → a ≤ b → b ≤ e → ((i : ℕ) → a ≤ i → i < b → f i ≡ []) → run f a (e - a) ≡ run f b (e - b)
+run-later {A} f a b e l h g =
+    run-parts f a b e l h ∙ ap (λ (m : List A). m ++ run f b (e - b)) (run-empty f a (b - a) (λ i p q. g i p (omega arith)))
+
+run-sooner : {A : Type 0} (f : ℕ → List A) (a b e : ℕ) → a ≤ b → b ≤ e → ((i : ℕ) → b ≤ i → i < e → f i ≡ []) → run f a (e - a) ≡ run f a (b - a)
+run-sooner {A} f a b e l h g =
+    run-parts f a b e l h ∙ ap (λ (m : List A). run f a (b - a) ++ m) (run-empty f b (e - b) (λ i p q. g i p (omega arith))) ∙ append-nil (run f a (b - a))
+
+-- the nodes from a up to p have contributed
+abbrev pub Swept : (ℕ → List Rec) → ℕ → List ℕ → ℕ → ℕ → List ℕ → ℕ → Type 0
+Swept f a o₀ k₀ p o k = Laid o₀ k₀ (run f a (p - a)) o k
+
+swept-none : (f : ℕ → List Rec) (a : ℕ) (o : List ℕ) (k : ℕ) → Swept f a o k a o k
+swept-none f a o k = rw (sub-self a) (rw run-none (laid-none o k))
+
+-- p has contributed too, and the nodes from there up to q contribute nothing
+swept-on : (f : ℕ → List Rec) (a p q : ℕ) {o₀ o₁ o₂ : List ℕ} {k₀ k₁ k₂ : ℕ} → a ≤ p → p < q → ((i : ℕ) → p < i → i < q → f i ≡ [])
+    → Swept f a o₀ k₀ p o₁ k₁ → Laid o₁ k₁ (f p) o₂ k₂ → Swept f a o₀ k₀ q o₂ k₂
+swept-on f a p q l h g w z =
+    let e : p + 1 - a ≡ p - a + 1 = omega arith in
+    let d : a + (p - a) ≡ p = omega arith in
+    laid-as
+    (ap (λ (j : ℕ). run f a (p - a) ++ f j) (sym d) ∙ sym (run-next f a (p - a)) ∙ ap (run f a) (sym e)
+    ∙ sym (run-sooner f a (p + 1) q (omega arith) (omega arith) (λ i m n. g i (omega arith) n)))
+    (laid-join w z)
+
+-- The invariant of every sweep: the nodes from `from` up to p have contributed F, each at most `most` records, whichever x the nodes are seen by (an image; an image and an entry; ..).
+pub record Sweeping {X : Type 0} (F : X → ℕ → List Rec) (from to most : ℕ) (o₀ : List ℕ) (k₀ : ℕ) (o : List ℕ) (k p : ℕ) : Type 0 where
+  pub low : from ≤ p
+  pub high : p ≤ to
+  pub few : k ≤ k₀ + most * (p - from)
+  pub long : length o ≡ length o₀
+  pub laid : (x : X) → Swept (F x) from o₀ k₀ p o k
+
+more : (most d m : ℕ) → d < m → most * d + most ≤ most * m
+more most d (suc m) h = let z : d ≤ m = omega arith in let y : most * suc m ≡ most * m + most = simp unary-clauses (omega arith) in go most d m z y
+  where
+    go : (most d m : ℕ) → d ≤ m → most * suc m ≡ most * m + most → most * d + most ≤ most * suc m
+    go most d m z y = let w = times most d m z in omega arith
+      where
+        times : (most d m : ℕ) → d ≤ m → most * d ≤ most * m
+        times most d zero h = let z : d ≡ 0 = omega arith in rw z (omega arith)
+        times most zero (suc m) h = let z : most * zero ≡ 0 = omega arith in omega arith
+        times most (suc d) (suc m) h =
+            let a : most * suc m ≡ most * m + most = simp unary-clauses (omega arith) in
+            let b : most * suc d ≡ most * d + most = simp unary-clauses (omega arith) in
+            let i = times most d m (omega arith) in
+            omega arith
+more most d zero h = absurd (omega arith)
+
+module _ {X : Type 0} {F : X → ℕ → List Rec} {from to most : ℕ} {o₀ : List ℕ} {k₀ : ℕ} where
+  pub sweep-starts : from ≤ to → Sweeping F from to most o₀ k₀ o₀ k₀ from
+  sweep-starts h = record {
+    low = omega arith;
+    high = h;
+    few = omega arith;
+    long = refl;
+    laid = λ x. swept-none (F x) from o₀ k₀;
+  }
+
+  -- on to q, past nodes that contribute nothing: the next child of a cursor
+  pub sweep-on : {o o′ : List ℕ} {k k′ p q : ℕ} → Sweeping F from to most o₀ k₀ o k p → p < q → q ≤ to → ((x : X) (i : ℕ) → p < i → i < q → F x i ≡ [])
+      → ((x : X) → Laid o k (F x p) o′ k′) → k′ ≤ k + most → length o′ ≡ length o → Sweeping F from to most o₀ k₀ o′ k′ q
+  sweep-on {o} {o′} {k} {k′} {p} {q} w g h z l f n =
+      let i = w .low in
+      let j = w .few in
+      let m = more most (p - from) (q - from) (omega arith) in
+      record {
+        low = omega arith;
+        high = h;
+        few = omega arith;
+        long = n ∙ w .long;
+        laid = λ x. swept-on (F x) from p q i g (z x) (w .laid x) (l x);
+      }
+
+  pub sweep-again : {o o′ : List ℕ} {k k′ p : ℕ} → Sweeping F from to most o₀ k₀ o k p → p < to
+      → ((x : X) → Laid o k (F x p) o′ k′) → k′ ≤ k + most → length o′ ≡ length o → Sweeping F from to most o₀ k₀ o′ k′ (p + 1)
+  sweep-again w h l f n = sweep-on w (omega arith) (omega arith) (λ x i a b. absurd (omega arith)) l f n
+
+  pub sweep-done : {o : List ℕ} {k p : ℕ} → Sweeping F from to most o₀ k₀ o k p → to ≤ p → (x : X) → Laid o₀ k₀ (run (F x) from (to - from)) o k
+  sweep-done {o} {k} {p} w h x = let i = w .high in let e : p ≡ to = omega arith in rw e at (w .laid x)
+
+-- One node's part in a sweep: the test of its kind.
+pub has-one : (k j : ℕ) → k ≡ j → has k (j ∷ []) ≡ true
+unfolding has
+has-one k j e = simp (eq-eqb k j e)
+
+pub has-not : (k j : ℕ) → (k ≡ j → ⊥) → has k (j ∷ []) ≡ false
+unfolding has
+has-not k j n = simp (ne-eqb k j n)
+
+module _ {o : List ℕ} {n : ℕ} {b : Bool} (f : ℕ → List Rec) (p : ℕ) where
+  pub laid-skip : b ≡ false → Laid o n (keep b f p) o n
+  unfolding keep
+  laid-skip e = rw e (laid-none o n)
+
+  pub laid-keep : {o′ : List ℕ} {n′ : ℕ} → b ≡ true → Laid o n (f p) o′ n′ → Laid o n (keep b f p) o′ n′
+  unfolding keep
+  laid-keep e l = rw e l
+
+pub keep-none : {A : Type 0} {b : Bool} (f : ℕ → List A) (p : ℕ) → b ≡ false → keep b f p ≡ []
+unfolding keep
+keep-none f p e = rw e
+
+-- a sweep over the nodes of a range, each kept by its kind, is what stands below its node
+pub laid-below : (t : Tree) (ks : List ℕ) (f : ℕ → List Rec) (a from to : ℕ) {o o′ : List ℕ} {n n′ : ℕ} → from ≡ a + 1 → to ≡ t .end a
+    → Laid o n (run (λ i. keep (has (t .kind i) ks) f i) from (to - from)) o′ n′ → Laid o n (below t ks a f) o′ n′
+unfolding below
+laid-below t ks f a from to d e l = let z : from ≡ suc a = omega arith in rw (e, z) at l
+
+-- also where the sweep starts later, past nodes that are not of these kinds
+pub laid-below-later : (t : Tree) (ks : List ℕ) (f : ℕ → List Rec) (a from to : ℕ) {o o′ : List ℕ} {n n′ : ℕ} → a < from → from ≤ to → to ≡ t .end a
+    → ((i : ℕ) → a < i → i < from → has (t .kind i) ks ≡ false)
+    → Laid o n (run (λ i. keep (has (t .kind i) ks) f i) from (to - from)) o′ n′ → Laid o n (below t ks a f) o′ n′
+laid-below-later t ks f a from to g h e z l =
+    laid-below t ks f a (a + 1) to refl e
+    (laid-as (sym (run-later (λ i. keep (has (t .kind i) ks) f i) (a + 1) from to (omega arith) h (λ i b c. keep-none f i (z i (omega arith) c)))) l)

@@ -1,0 +1,28 @@
+-- The nodes of an image in which `Q_Asset` has the number `asset`, and the names inside its types ("Known assets" of document 01, "Model").
+use Prim.Native.Nat.{ℕ}
+use mathlib.Core.Bool.{Bool, true}
+use mathlib.Core.List.{List}
+use Rattle.rules.specs.Sweep.{also, has}
+use Rattle.rules.specs.Tree.{type}
+use Rattle.rules.specs.Vocabulary.{someBelow}
+use Rattle.rules.specs.Words.{Q-Asset}
+use Rattle.rules.specs.Model.{inner}
+use Rattle.records.specs.Words.{Lent, old, new}
+use Rattle.nodes.specs.Shown.{View, treeOf}
+use Rattle.nodes.specs.Marks.{Turned}
+use Rattle.names.specs.Found.{Numbered}
+
+pub record Assets (nodes : List ℕ) (asset : ℕ) : Type 0 where
+  pub view : View nodes 0
+  pub numbered : Numbered (view .image) Q-Asset asset
+
+-- w is the name inside node y, a Type named `Q_Asset`; it is inside one of the contract's types
+abbrev pub insideAt : {nodes : List ℕ} {asset : ℕ} → ℕ → Assets nodes asset → List ℕ → Bool
+insideAt y A w = also (has (treeOf (A .view) .kind y) type) (inner (treeOf (A .view)) w) y
+
+abbrev pub inside : {nodes : List ℕ} {asset : ℕ} → Assets nodes asset → List ℕ → Bool
+inside A w = someBelow (treeOf (A .view)) type 0 (inner (treeOf (A .view)) w)
+
+-- a function that is lent a table sets the marks of the words that G names
+abbrev pub Gains : {nodes : List ℕ} {asset : ℕ} → (Assets nodes asset → List ℕ → Bool) → Lent (List Bool) → Type 0
+Gains G known = Turned true (λ A. A .view .image) G (old known) (new known)

@@ -1,0 +1,7 @@
+pub mod Bytes
+pub mod Table
+pub mod Search
+pub mod Located
+pub mod Said
+pub mod Marked
+pub mod Words

@@ -1,0 +1,20 @@
+-- The number of a word, found by its bytes: the names of an admitted image ascend strictly by bytes ("The image" of document 01), so one name at most has them.
+use Prim.Native.Nat.{ℕ, _+_, _<_, _≤_}
+use mathlib.Core.Path.{_≡_}
+use mathlib.Core.Bool.{true, false}
+use mathlib.Core.List.{List}
+use Rattle.image.specs.Text.{less}
+use Rattle.image.specs.Admit.{nameCount}
+use Rattle.nodes.specs.Shown.{word}
+
+-- r names are before w, and the others are not
+pub record Parted (s w : List ℕ) (r : ℕ) : Type 0 where
+  pub high : r ≤ nameCount s
+  pub under : (k : ℕ) → k < r → less (word s (k + 1)) w ≡ true
+  pub over : (k : ℕ) → r ≤ k → k < nameCount s → less (word s (k + 1)) w ≡ false
+
+-- r is the number of the name w; 0 where no name has these bytes
+pub record Numbered (s w : List ℕ) (r : ℕ) : Type 0 where
+  pub high : r ≤ nameCount s
+  pub is : 1 ≤ r → word s r ≡ w
+  pub none : r ≡ 0 → (x : ℕ) → 1 ≤ x → x ≤ nameCount s → word s x ≡ w → ⊥

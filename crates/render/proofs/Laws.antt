@@ -1,0 +1,141 @@
+-- The line of a pass and of a record; the lines of a list's records, read from their words; the whole report.
+use Prim.Native.Nat.{ℕ, suc, _+_, _*_, _^_, _<_, _≤_}
+use mathlib.Core.Path.{_≡_, refl, ap, _∙_, sym}
+use mathlib.Core.Bool.{Bool, true, false}
+use mathlib.Core.List.{List, [], _∷_, _++_}
+use native.Mathlib.Omega.{arith}
+use borrow.Author.Tests.{eq-eqb, ne-eqb, ltb-true, ltb-false}
+use lib.Dec.{ltb}
+use lib.ListN.{length, length-append, getD}
+use Rattle.image.specs.Pick.{pick}
+use Rattle.image.specs.Admit.{refusal, verdict}
+use Rattle.image.specs.declared.Admission.the-variants.{Refused}
+use Rattle.image.proofs.Verdict.{refused-is}
+use Rattle.rules.specs.Sweep.{run}
+use Rattle.rules.specs.Tree.{tree}
+use Rattle.rules.specs.Vocabulary.{Rec, rec}
+use Rattle.rules.specs.All.{offences}
+use Rattle.rules.specs.Spelling.{bytes}
+use Rattle.rules.specs.Resolve.{resolve}
+use Rattle.rules.specs.Access.{access}
+use Rattle.rules.specs.Linear.{linear}
+use Rattle.rules.specs.Answers.{Answer, passAnswer, spanFrom, spanTo, words, Listing, listRefused, listed, listAnswer, listBuffer}
+use Rattle.rules.proofs.Answers.{list-short, list-listed, buffer-listed, buffer-long, laid-written}
+use Rattle.records.proofs.Sweep.{run-none, run-next, run-split}
+use Rattle.typeck.specs.declared.Listed.{Listed}
+use Rattle.typeck.specs.declared.Listed.the-variants as the
+use Rattle.typeck.specs.declared.Verdict.{Verdict}
+use Rattle.typeck.specs.Face.{Stands, answerOf, listingOf, listedOf}
+use Rattle.typeck.proofs.Laws.{refused-number}
+use Rattle.lines.specs.Line.{digits, rest, Wrote}
+use Rattle.lines.proofs.Laws.{wrote-join, few-five, few-ten, rest-length}
+use Rattle.render.specs.Report.{passLine, recordLine, recordLines, listLines, reportText, lineAt}
+
+-- the line of a pass
+pub pass-is : (name : List ℕ) {v w : Verdict} {o o₁ o₂ : List ℕ} {at k r : ℕ} → v ≡ w → length name < 2 ^ 10 → Wrote o at name o₁ k
+    → (Wrote o₁ k (rest (answerOf w .number ∷ answerOf w .place ∷ answerOf w .from ∷ answerOf w .to ∷ [])) o₂ r × (r ≤ k + 85))
+    → Wrote o at (passLine name (answerOf v)) o₂ r × (r ≤ at + 2 ^ 11)
+pass-is name e h W R = let n = W .count in let b = R .1 in (rw e (wrote-join W (R .0)), omega arith)
+
+-- the line of a record
+pub record-is : (s : List ℕ) (code place related f t : ℕ) → f ≡ spanFrom s place → t ≡ spanTo s place
+    → digits 20 code ++ rest (place ∷ related ∷ f ∷ t ∷ []) ≡ recordLine s (rec code place related)
+record-is s code place related f t x y =
+    ap (λ (i : ℕ). digits 20 code ++ rest (place ∷ related ∷ i ∷ t ∷ [])) x ∙ ap (λ (i : ℕ). digits 20 code ++ rest (place ∷ related ∷ spanFrom s place ∷ i ∷ [])) y
+
+pub record-few : (code place related f t : ℕ) → code < 65536 → place < 65536 → related < 65536 → f < 2 ^ 32 → t < 2 ^ 32
+    → length (digits 20 code ++ rest (place ∷ related ∷ f ∷ t ∷ [])) ≤ 40
+record-few code place related f t a b c d e =
+    let n = length-append (digits 20 code) (rest (place ∷ related ∷ f ∷ t ∷ [])) in
+    let r = rest-length place related f t in
+    let u = few-five 20 code (omega arith) in
+    let v = few-five 20 place (omega arith) in
+    let w = few-five 20 related (omega arith) in
+    let x = few-ten 20 f (omega arith) in
+    let y = few-ten 20 t (omega arith) in
+    omega arith
+
+-- the lines of records, read from their words
+run-one : {A : Type 0} (f : ℕ → List A) (k : ℕ) → run f k 1 ≡ f k
+run-one {A} f k = let e : k + 0 ≡ k = omega arith in run-next f k 0 ∙ ap (λ (l : List A). l ++ f (k + 0)) (run-none f k) ∙ ap f e
+
+rec-same : (r : Rec) {c p q : ℕ} → c ≡ r .code → p ≡ r .place → q ≡ r .related → rec c p q ≡ r
+rec-same r {c} {p} {q} x y z = ap (λ (i : ℕ). rec i p q) x ∙ ap (λ (i : ℕ). rec (r .code) i q) y ∙ ap (λ (i : ℕ). rec (r .code) (r .place) i) z
+
+pub lines-next : (s w : List ℕ) (i : ℕ) {c p q : ℕ} → c ≡ getD w (3 * i) 0 → p ≡ getD w (3 * i + 1) 0 → q ≡ getD w (3 * i + 2) 0
+    → run (lineAt s w) 0 i ++ recordLine s (rec c p q) ≡ run (lineAt s w) 0 (i + 1)
+lines-next s w i x y z =
+    let n : i ≡ 0 + i = omega arith in
+    ap (λ (r : Rec). run (lineAt s w) 0 i ++ recordLine s r) (rec-same (rec (getD w (3 * i) 0) (getD w (3 * i + 1) 0) (getD w (3 * i + 2) 0)) x y z)
+    ∙ ap (λ (j : ℕ). run (lineAt s w) 0 i ++ lineAt s w j) n ∙ sym (run-next (lineAt s w) 0 i)
+
+lines-from : (s w : List ℕ) (l : List Rec) (k : ℕ) → ((i : ℕ) → i < 3 * length l → getD w (3 * k + i) 0 ≡ getD (words l) i 0)
+    → run (lineAt s w) k (length l) ≡ recordLines s l
+unfolding recordLines
+lines-from s w [] k h = run-none (lineAt s w) k
+lines-from s w (r ∷ l) k h =
+    let z : 3 * k ≡ 3 * k + 0 = omega arith in
+    let n : suc (length l) ≡ 1 + length l = omega arith in
+    let here : lineAt s w k ≡ recordLine s r =
+    ap (recordLine s) (rec-same r (ap (λ (i : ℕ). getD w i 0) z ∙ h 0 (omega arith)) (h 1 (omega arith)) (h 2 (omega arith))) in
+    let later : (i : ℕ) → i < 3 * length l → getD w (3 * (k + 1) + i) 0 ≡ getD (words l) i 0 =
+    λ i g. (let e : 3 * (k + 1) + i ≡ 3 * k + suc (suc (suc i)) = omega arith in ap (λ (j : ℕ). getD w j 0) e ∙ h (suc (suc (suc i))) (omega arith)) in
+    ap (run (lineAt s w) k) n ∙ run-split (lineAt s w) k 1 (length l)
+    ∙ ap (λ (t : List ℕ). t ++ run (lineAt s w) (k + 1) (length l)) (run-one (lineAt s w) k ∙ here)
+    ∙ ap (λ (t : List ℕ). recordLine s r ++ t) (lines-from s w l (k + 1) later)
+
+-- the lines of the list, from what it answers and what it leaves in its buffer
+module _ (s o w : List ℕ) (count : ℕ) (e : refusal s ≡ 0) (a : listed count ≡ listAnswer s (length o)) (b : w ≡ listBuffer s o) where
+  many : (count ≡ length (offences (tree s))) × (3 * length (offences (tree s)) ≤ length o)
+  many = go (ltb (length o) (3 * length (offences (tree s)))) refl
+    where
+      go : (t : Bool) → ltb (length o) (3 * length (offences (tree s))) ≡ t → (count ≡ length (offences (tree s))) × (3 * length (offences (tree s)) ≤ length o)
+      go true q = let z : _≡_ {A = ℕ} 0 9 = ap (λ (l : Listing). l .number) (a ∙ list-short s (length o) e (ltb-true _ _ q)) in absurd (omega arith)
+      go false q = let l = ltb-false (length o) (3 * length (offences (tree s))) q in (ap (λ (x : Listing). x .records) (a ∙ list-listed s (length o) e l), l)
+
+  pub records-fit : (3 * count ≤ length w) × (length w ≡ length o)
+  records-fit =
+      let m = many in
+      let x = m .0 in
+      let y = m .1 in
+      let l : length w ≡ length o = ap length b ∙ buffer-long s o in
+      (omega arith, l)
+
+  pub lines-listed : (size : ℕ) → length o ≡ size → bytes "list" ++ (rest (count ∷ []) ++ run (lineAt s w) 0 count) ≡ listLines s (listAnswer s size)
+  lines-listed size f =
+      let m = many in
+      let at : (i : ℕ) → i < 3 * length (offences (tree s)) → getD w (3 * 0 + i) 0 ≡ getD (words (offences (tree s))) i 0 =
+      λ i g. (let z : 3 * 0 + i ≡ i = omega arith in let l = m .1 in
+      ap (λ (j : ℕ). getD w j 0) z ∙ ap (λ (v : List ℕ). getD v i 0) (b ∙ buffer-listed s o e (m .1)) ∙ laid-written o (offences (tree s)) i g (omega arith)) in
+      ap (λ (t : List ℕ). bytes "list" ++ (rest (count ∷ []) ++ t)) (ap (run (lineAt s w) 0) (m .0) ∙ lines-from s w (offences (tree s)) 0 at)
+      ∙ ap (listLines s) (a ∙ ap (listAnswer s) f)
+
+abbrev tag : Listed → ℕ
+tag (the.Refused r) = 1
+tag (the.Records k) = 0
+
+not-zero : {n : Listing} (r : ℕ) → Stands listingOf listedOf n (the.Refused r) → r ≡ 0 → ⊥
+not-zero {n} r p z =
+    let e : the.Refused r ≡ listedOf (listRefused r) = p .case ∙ ap listedOf (sym (p .numbers)) in
+    let f : the.Refused r ≡ the.Records 0 = e ∙ ap (λ (b : Bool). pick b (the.Records 0) (the.Refused r)) (eq-eqb r 0 z) in
+    let g : _≡_ {A = ℕ} 1 0 = ap tag f in
+    absurd (omega arith)
+
+pub lines-refused : (s o : List ℕ) (v : Listed) (r size : ℕ) → length o ≡ size → v ≡ the.Refused r → Stands listingOf listedOf (listAnswer s (length o)) v
+    → bytes "list refused" ++ rest (r ∷ []) ≡ listLines s (listAnswer s size)
+lines-refused s o v r size f e q =
+    let p : Stands listingOf listedOf (listAnswer s (length o)) (the.Refused r) = rw e at q in
+    sym (ap (λ (b : Bool). pick b (bytes "list" ++ (rest (0 ∷ []) ++ recordLines s (offences (tree s)))) (bytes "list refused" ++ rest (r ∷ []))) (ne-eqb r 0 (not-zero r p)))
+    ∙ ap (listLines s) (p .numbers ∙ ap (listAnswer s) f)
+
+-- the whole report
+pub report-refused : (s : List ℕ) (k : ℕ) → verdict (refusal s) s ≡ Refused k → bytes "image" ++ rest (k ∷ []) ≡ reportText s
+unfolding reportText
+report-refused s k e =
+    let n = ne-eqb (refusal s) 0 (refused-is (refusal s) s k e) in
+    rw n (ap (λ (i : ℕ). bytes "image" ++ rest (i ∷ [])) (refused-number s k e))
+
+pub report-admitted : (s : List ℕ) {a b c : Answer} → refusal s ≡ 0 → a ≡ passAnswer resolve s → b ≡ passAnswer access s → c ≡ passAnswer linear s
+    → passLine (bytes "resolve") a ++ (passLine (bytes "access") b ++ (passLine (bytes "linear") c ++ listLines s (listAnswer s 32768))) ≡ reportText s
+unfolding reportText
+report-admitted s e x y z = let n = eq-eqb (refusal s) 0 e in rw (n, x, y, z)

@@ -1,0 +1,213 @@
+// The resolve pass: codes 20 to 40 of document 01, as the pass's part of the list, the groups in order.
+use image::Image;
+use nodes::ENTRY;
+use nodes::GENESIS;
+use nodes::Marks;
+use nodes::NAME;
+use resolve_clauses::Rule;
+ghost use mathlib.Core.Path.{_≡_};
+ghost use Prim.Native.Nat.{_*_, _<_, _^_};
+ghost use Rattle.rules.specs.Tree.{tree};
+ghost use Rattle.rules.specs.Resolve.{group33, group35, resolve};
+ghost use Rattle.records.specs.Words.{old, new};
+ghost use Rattle.records.specs.Records.{Adds};
+ghost use Rattle.nodes.specs.Shown.{In, Admitted};
+ghost use Rattle.resolve_clauses.specs.Said.{IsEntry};
+ghost use Rattle.resolve.specs.Tables.{Named, Worded, Called, Tables, item33, entryCalls, item35, firstGroups, named, worded, called, lent, Cleans};
+
+// 20, 21, 22, 23, 24 to 29, 30 and 31; `mint_asset` has the number `mint`.
+fn first_groups(nodes: &[u8], mint: usize, state: &Marks, out: &mut [u16]) -> usize
+    requires { ⌜ Named (now nodes) mint (now state) ⌝ }
+    ensures { λ r. ⌜ Adds (named firstGroups nodes mint state) (2 ^ 35) out 0 r ⌝ }
+{
+    let fields = resolve_names::group20(nodes, out, 0);
+    let events = resolve_names::group21(nodes, out, fields);
+    let mints = resolve_calls::group22(nodes, mint, out, events);
+    let overloads = signature::group23(nodes, out, mints);
+    let names = resolve_names::group24(nodes, state, out, overloads);
+    resolve_events::group30(nodes, out, names)
+}
+
+// 33, then 34, in an item, if it is a Genesis.
+fn genesis(
+    nodes: &[u8],
+    item: usize,
+    state: &Marks,
+    builtin: &Marks,
+    method: &Marks,
+    out: &mut [u16],
+    count: usize,
+) -> usize
+    requires { ⌜ Worded (now nodes) (now state) (now builtin) (now method) × In (now nodes) 0 item × (0 < item) × (count < 2 ^ 48) ⌝ }
+    ensures { λ r. ⌜ Adds (worded (item33 item) nodes state builtin method) 4096 out count r ⌝ }
+{
+    if nodes::kind(nodes, 0, item) != GENESIS {
+        return count;
+    }
+    let total = resolve_clauses::assigns(nodes, item, state, out, count);
+    let first = nodes::first_statement(nodes, 0, item);
+    let body = nodes::statements(nodes, 0, item, first);
+    resolve_calls::calls34(body, first, builtin, method, out, total)
+}
+
+// 33 and 34: each Genesis.
+fn group33(
+    nodes: &[u8],
+    state: &Marks,
+    builtin: &Marks,
+    method: &Marks,
+    out: &mut [u16],
+    count: usize,
+) -> usize
+    requires { ⌜ Worded (now nodes) (now state) (now builtin) (now method) × In (now nodes) 0 0 × (count < 2 ^ 40) ⌝ }
+    ensures { λ r. ⌜ Adds (worded group33 nodes state builtin method) (4096 * 2048) out count r ⌝ }
+{
+    let end = nodes::end(nodes, 0, 0);
+    let mut total = count;
+    let mut p = 1;
+    while p < end {
+        total = genesis(nodes, p, state, builtin, method, out, total);
+        p = nodes::end(nodes, 0, p);
+    }
+    total
+}
+
+// 40, then 34, in an entry's statements. Its parameters of type `Q_Address` are marked, and the marks taken off again.
+fn entry_calls(
+    nodes: &[u8],
+    entry: usize,
+    address: usize,
+    fields: &Marks,
+    params: &mut Marks,
+    builtin: &Marks,
+    method: &Marks,
+    out: &mut [u16],
+    count: usize,
+) -> usize
+    requires { ⌜ Called (now nodes) address (now fields) (now params) (now builtin) (now method) × IsEntry (now nodes) entry × (count < 2 ^ 48) ⌝ }
+    ensures { λ r. ⌜ Adds (called (entryCalls entry) nodes address fields params builtin method) 4096 out count r ⌝ }
+    ensures { λ _. ⌜ Cleans nodes address fields params builtin method ⌝ }
+{
+    resolve_calls::mark_params(nodes, entry, address, true, params);
+    let first = nodes::first_statement(nodes, 0, entry);
+    let body = nodes::statements(nodes, 0, entry, first);
+    let total = resolve_calls::calls40(body, first, fields, params, out, count);
+    resolve_calls::mark_params(nodes, entry, address, false, params);
+    resolve_calls::calls34(body, first, builtin, method, out, total)
+}
+
+// 35, 36 to 39, 40 and 34 in an item, if it is an Entry.
+fn entry(
+    nodes: &[u8],
+    item: usize,
+    address: usize,
+    state: &Marks,
+    declared: &Marks,
+    known: &Marks,
+    fields: &Marks,
+    params: &mut Marks,
+    builtin: &Marks,
+    method: &Marks,
+    out: &mut [u16],
+    count: usize,
+) -> usize
+    requires { ⌜ Tables (now nodes) address (now state) (now declared) (now known) (now fields) (now params) (now builtin) (now method) × In (now nodes) 0 item × (0 < item) × (count < 2 ^ 44) ⌝ }
+    ensures { λ r. ⌜ Adds (lent (item35 item) nodes address state declared known fields params builtin method) (2 ^ 23) out count r ⌝ }
+    ensures { λ _. ⌜ Cleans nodes address fields params builtin method ⌝ }
+{
+    if nodes::kind(nodes, 0, item) != ENTRY {
+        return count;
+    }
+    let signed = resolve_clauses::signers(Rule(NAME, false, 35), nodes, item, state, out, count);
+    let listed = resolve_clauses::clauses(nodes, item, state, declared, known, out, signed);
+    entry_calls(
+        nodes,
+        item,
+        address,
+        fields,
+        params,
+        builtin,
+        method,
+        out,
+        listed,
+    )
+}
+
+// 35 to 40, and 34: the entries in order.
+fn group35(
+    nodes: &[u8],
+    address: usize,
+    state: &Marks,
+    declared: &Marks,
+    known: &Marks,
+    fields: &Marks,
+    params: &mut Marks,
+    builtin: &Marks,
+    method: &Marks,
+    out: &mut [u16],
+    count: usize,
+) -> usize
+    requires { ⌜ Tables (now nodes) address (now state) (now declared) (now known) (now fields) (now params) (now builtin) (now method) × In (now nodes) 0 0 × (count < 2 ^ 40) ⌝ }
+    ensures { λ r. ⌜ Adds (lent group35 nodes address state declared known fields params builtin method) (2 ^ 34) out count r ⌝ }
+{
+    let end = nodes::end(nodes, 0, 0);
+    let mut total = count;
+    let mut p = 1;
+    while p < end {
+        total = entry(
+            nodes,
+            p,
+            address,
+            state,
+            declared,
+            known,
+            fields,
+            params,
+            builtin,
+            method,
+            out,
+            total,
+        );
+        p = nodes::end(nodes, 0, p);
+    }
+    total
+}
+
+// The records of the resolve pass of an admitted image, from the buffer's start.
+pub fn list(image: &[u8], head: Image, out: &mut [u16]) -> usize
+    requires { ⌜ Admitted (now image) head ⌝ }
+    ensures { λ r. ⌜ Adds (λ (_ : Unit {0}). resolve (tree (old image))) (2 ^ 38) out 0 r ⌝ }
+{
+    let nodes = nodes::area(image, head);
+    let mut state = [false; 1024];
+    model::mark_state(nodes, &mut state);
+    let mut declared = [false; 1024];
+    model::mark_declared(nodes, &mut declared);
+    let mut known = [false; 1024];
+    model::mark_known(image, head, &mut known);
+    let address = names::number_of(image, head, b"Q_Address");
+    let mut fields = [false; 1024];
+    resolve_calls::mark_fields(nodes, address, &mut fields);
+    let mut builtin = [false; 1024];
+    resolve_calls::mark_builtins(image, head, &mut builtin);
+    let mut method = [false; 1024];
+    resolve_calls::mark_methods(image, head, &mut method);
+    let mut params = [false; 1024];
+    let mint = names::number_of(image, head, b"mint_asset");
+    let total = first_groups(nodes, mint, &state, out);
+    let total = resolve_clauses::group32(image, head, out, total);
+    let total = group33(nodes, &state, &builtin, &method, out, total);
+    group35(
+        nodes,
+        address,
+        &state,
+        &declared,
+        &known,
+        &fields,
+        &mut params,
+        &builtin,
+        &method,
+        out,
+        total,
+    )
+}

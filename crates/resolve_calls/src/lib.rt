@@ -1,0 +1,290 @@
+// Calls: codes 22, 34 and 40 of document 01.
+use image::Image;
+use nodes::ASSET;
+use nodes::CALL;
+use nodes::CALLER;
+use nodes::FIELD_DECL;
+use nodes::IDENT;
+use nodes::Marks;
+use nodes::PARAM;
+use nodes::Past;
+ghost use mathlib.Core.Path.{_≡_};
+ghost use mathlib.Core.Bool.{Bool, false};
+ghost use mathlib.Core.List.{List};
+ghost use Prim.Native.Nat.{ℕ, _*_, _<_, _^_};
+ghost use Rattle.rules.specs.Sweep.{also, has};
+ghost use Rattle.rules.specs.Tree.{param, peels-fields};
+ghost use Rattle.rules.specs.Words.{Q-Address};
+ghost use Rattle.rules.specs.Vocabulary.{atBottom};
+ghost use Rattle.rules.specs.Model.{isStateTyped};
+ghost use Rattle.rules.specs.Resolve.{isAddress, manyAssets, mintCalls, group22};
+ghost use Rattle.records.specs.Words.{old, new};
+ghost use Rattle.records.specs.Records.{Adds, Asks};
+ghost use Rattle.nodes.specs.Shown.{View, In, Admitted, treeOf};
+ghost use Rattle.nodes.specs.Marks.{Marks};
+ghost use Rattle.resolve_calls.specs.Called.{isBuiltin, isMethod, paramAt, paramTyped, Minting, Typing, Known, Calling, at22, at34, at40, item22, minted, known, called, swept22, swept34, swept40, TypesField, TurnsTyped};
+
+// 34 at a node of an item's statements: a Call of neither a word that may be called nor a method.
+fn rule34(nodes: &[u8], base: usize, p: usize, builtin: &Marks, method: &Marks) -> bool
+    requires { ⌜ Known (now nodes) base (now builtin) (now method) × In (now nodes) base p ⌝ }
+    ensures { λ r. ⌜ Asks (known (at34 p) nodes base builtin method) 34 p r ⌝ }
+{
+    if nodes::kind(nodes, base, p) != CALL {
+        return false;
+    }
+    if nodes::is_ident(nodes, base, p + 1, builtin) {
+        return false;
+    }
+    !nodes::is_field(nodes, base, p + 1, method)
+}
+
+// 34 in an item's statements, lent as their own part of the node area, which starts with number `base`.
+pub fn calls34(
+    nodes: &[u8],
+    base: usize,
+    builtin: &Marks,
+    method: &Marks,
+    out: &mut [u16],
+    count: usize,
+) -> usize
+    requires { ⌜ Known (now nodes) base (now builtin) (now method) × (count < 2 ^ 50) ⌝ }
+    ensures { λ r. ⌜ Adds (swept34 nodes base builtin method) 2048 out count r ⌝ }
+{
+    let end = base + nodes.len() / 16;
+    let mut total = count;
+    let mut p = base;
+    while p < end {
+        total = records::emit_if(rule34(nodes, base, p, builtin, method), out, total, 34, p);
+        p += 1;
+    }
+    total
+}
+
+// Whether x, peeled at each step down Field bases, ends in Caller or in a `Q_Address` state field or parameter.
+fn is_address(nodes: &[u8], base: usize, x: usize, fields: &Marks, params: &Marks) -> bool
+    requires { ⌜ Calling (now nodes) base (now fields) (now params) × In (now nodes) base x ⌝ }
+    ensures { λ r. ⌜ ((T : Calling (old nodes) base (old fields) (old params)) → r ≡ atBottom (treeOf (T .view)) peels-fields x (isAddress (treeOf (T .view)) (T .entry))) ⌝ }
+{
+    let bottom = nodes::down(Past::Both, nodes, base, x);
+    if nodes::end(nodes, base, x) <= bottom {
+        return false;
+    }
+    match nodes::kind(nodes, base, bottom) {
+        CALLER => true,
+        IDENT => {
+            if nodes::is_marked(fields, nodes, base, bottom) {
+                return true;
+            }
+            nodes::is_marked(params, nodes, base, bottom)
+        }
+        _ => false,
+    }
+}
+
+// 40 at a node of an entry's statements: a Call on an address.
+fn rule40(nodes: &[u8], base: usize, p: usize, fields: &Marks, params: &Marks) -> bool
+    requires { ⌜ Calling (now nodes) base (now fields) (now params) × In (now nodes) base p ⌝ }
+    ensures { λ r. ⌜ Asks (called (at40 p) nodes base fields params) 40 p r ⌝ }
+{
+    if nodes::kind(nodes, base, p) != CALL {
+        return false;
+    }
+    is_address(nodes, base, p + 1, fields, params)
+}
+
+// 40 in an entry's statements, lent as their own part of the node area.
+pub fn calls40(
+    nodes: &[u8],
+    base: usize,
+    fields: &Marks,
+    params: &Marks,
+    out: &mut [u16],
+    count: usize,
+) -> usize
+    requires { ⌜ Calling (now nodes) base (now fields) (now params) × (count < 2 ^ 50) ⌝ }
+    ensures { λ r. ⌜ Adds (swept40 nodes base fields params) 2048 out count r ⌝ }
+{
+    let end = base + nodes.len() / 16;
+    let mut total = count;
+    let mut p = base;
+    while p < end {
+        total = records::emit_if(rule40(nodes, base, p, fields, params), out, total, 40, p);
+        p += 1;
+    }
+    total
+}
+
+// The marks of the words that a Call may call.
+pub fn mark_builtins(image: &[u8], head: Image, builtin: &mut Marks)
+    requires { ⌜ Admitted (now image) head ⌝ }
+    ensures { λ _. ⌜ (Marks (old image) (λ w. false) (old builtin) → Marks (old image) isBuiltin (new builtin)) ⌝ }
+{
+    names::mark_word(image, head, b"send", builtin);
+    names::mark_word(image, head, b"send_asset", builtin);
+    names::mark_word(image, head, b"mint", builtin);
+    names::mark_word(image, head, b"mint_asset", builtin);
+}
+
+// The marks of the words that a Call may call of a base.
+pub fn mark_methods(image: &[u8], head: Image, method: &mut Marks)
+    requires { ⌜ Admitted (now image) head ⌝ }
+    ensures { λ _. ⌜ (Marks (old image) (λ w. false) (old method) → Marks (old image) isMethod (new method)) ⌝ }
+{
+    names::mark_word(image, head, b"get", method);
+    names::mark_word(image, head, b"contains", method);
+    names::mark_word(image, head, b"split", method);
+    names::mark_word(image, head, b"set", method);
+    names::mark_word(image, head, b"remove", method);
+    names::mark_word(image, head, b"merge", method);
+    names::mark_word(image, head, b"insert", method);
+    names::mark_word(image, head, b"debit", method);
+    names::mark_word(image, head, b"credit", method);
+}
+
+// A FieldDecl: the mark of its Name says whether it is of type `Q_Address`, which has the number `address`.
+fn mark_field(nodes: &[u8], p: usize, address: usize, fields: &mut Marks)
+    requires { ⌜ Typing (now nodes) address × In (now nodes) 0 p ⌝ }
+    ensures { λ _. ⌜ TypesField nodes p address fields ⌝ }
+{
+    if nodes::kind(nodes, 0, p) == FIELD_DECL {
+        let on = names::is_word(address, nodes, 0, p + 3);
+        nodes::mark(fields, nodes, 0, p + 1, on);
+    }
+}
+
+// The marks of the state fields that are of type `Q_Address` by their last declaration; none where the image has no such name.
+pub fn mark_fields(nodes: &[u8], address: usize, fields: &mut Marks)
+    requires { ⌜ Typing (now nodes) address × In (now nodes) 0 0 ⌝ }
+    ensures { λ _. ⌜ ((T : Typing (old nodes) address) → Marks (T .view .image) (λ w. false) (old fields) → Marks (T .view .image) (isStateTyped (treeOf (T .view)) Q-Address) (new fields)) ⌝ }
+{
+    if address < 1 {
+        return;
+    }
+    let end = nodes::end(nodes, 0, 0);
+    let mut p = 1;
+    while p < end {
+        mark_field(nodes, p, address, fields);
+        p = nodes::next_declaration(nodes, 0, p);
+    }
+}
+
+// A Param of type `Q_Address`: the mark of its Name is set, or taken off.
+fn mark_param(nodes: &[u8], p: usize, address: usize, on: bool, params: &mut Marks)
+    requires { ⌜ Typing (now nodes) address × In (now nodes) 0 p ⌝ }
+    ensures { λ _. ⌜ TurnsTyped on nodes address (λ t w. also (has (t .kind p) param) (paramAt t w) p) params ⌝ }
+{
+    if nodes::kind(nodes, 0, p) != PARAM {
+        return;
+    }
+    if names::is_word(address, nodes, 0, p + 3) {
+        nodes::mark(params, nodes, 0, p + 1, on);
+    }
+}
+
+// The marks of an entry's parameters that are of type `Q_Address` are set, or taken off; none where the image has no such name.
+pub fn mark_params(nodes: &[u8], entry: usize, address: usize, on: bool, params: &mut Marks)
+    requires { ⌜ Typing (now nodes) address × In (now nodes) 0 entry × (0 < entry) ⌝ }
+    ensures { λ _. ⌜ TurnsTyped on nodes address (λ t w. paramTyped t entry w) params ⌝ }
+{
+    if address < 1 {
+        return;
+    }
+    let end = nodes::end(nodes, 0, entry);
+    let mut p = entry + 1;
+    while p < end {
+        mark_param(nodes, p, address, on, params);
+        p = nodes::end(nodes, 0, p);
+    }
+}
+
+// 22 at a node of an item's statements: a Call of Ident `mint_asset`, which has the number `mint`.
+fn rule22(nodes: &[u8], base: usize, p: usize, mint: usize) -> bool
+    requires { ⌜ Minting (now nodes) base mint × In (now nodes) base p ⌝ }
+    ensures { λ r. ⌜ Asks (minted (at22 p) nodes base mint) 22 p r ⌝ }
+{
+    if nodes::kind(nodes, base, p) != CALL {
+        return false;
+    }
+    if nodes::kind(nodes, base, p + 1) != IDENT {
+        return false;
+    }
+    names::is_word(mint, nodes, base, p + 1)
+}
+
+// 22 in an item's statements, lent as their own part of the node area.
+fn calls22(nodes: &[u8], base: usize, mint: usize, out: &mut [u16], count: usize) -> usize
+    requires { ⌜ Minting (now nodes) base mint × (count < 2 ^ 50) ⌝ }
+    ensures { λ r. ⌜ Adds (swept22 nodes base mint) 2048 out count r ⌝ }
+{
+    let end = base + nodes.len() / 16;
+    let mut total = count;
+    let mut p = base;
+    while p < end {
+        total = records::emit_if(rule22(nodes, base, p, mint), out, total, 22, p);
+        p += 1;
+    }
+    total
+}
+
+// 22 in an item, if it holds statements.
+fn item22(nodes: &[u8], item: usize, mint: usize, out: &mut [u16], count: usize) -> usize
+    requires { ⌜ Minting (now nodes) 0 mint × In (now nodes) 0 item × (0 < item) × (count < 2 ^ 50) ⌝ }
+    ensures { λ r. ⌜ Adds (minted (item22 item) nodes 0 mint) 2048 out count r ⌝ }
+{
+    if !nodes::is_bodied(nodes::kind(nodes, 0, item)) {
+        return count;
+    }
+    let first = nodes::first_statement(nodes, 0, item);
+    let body = nodes::statements(nodes, 0, item, first);
+    calls22(body, first, mint, out, count)
+}
+
+// 22: the items in order.
+fn mint_calls(nodes: &[u8], mint: usize, out: &mut [u16], count: usize) -> usize
+    requires { ⌜ Minting (now nodes) 0 mint × In (now nodes) 0 0 × (count < 2 ^ 40) ⌝ }
+    ensures { λ r. ⌜ Adds (minted mintCalls nodes 0 mint) (2048 * 2048) out count r ⌝ }
+{
+    let end = nodes::end(nodes, 0, 0);
+    let mut total = count;
+    let mut p = 1;
+    while p < end {
+        total = item22(nodes, p, mint, out, total);
+        p = nodes::end(nodes, 0, p);
+    }
+    total
+}
+
+// Whether there is over one Asset item: items are counted, not names.
+fn many_assets(nodes: &[u8]) -> bool
+    requires { ⌜ View (now nodes) 0 × In (now nodes) 0 0 ⌝ }
+    ensures { λ r. ⌜ ((W : View (old nodes) 0) → r ≡ manyAssets (treeOf W)) ⌝ }
+{
+    let end = nodes::end(nodes, 0, 0);
+    let mut asset = 0;
+    let mut next = 1;
+    while next < end {
+        let p = next;
+        next = nodes::next_declaration(nodes, 0, p);
+        if nodes::kind(nodes, 0, p) == ASSET {
+            if 0 < asset {
+                return true;
+            }
+            asset = p;
+        }
+    }
+    false
+}
+
+// 22; nothing where the image has no name `mint_asset`.
+pub fn group22(nodes: &[u8], mint: usize, out: &mut [u16], count: usize) -> usize
+    requires { ⌜ Minting (now nodes) 0 mint × In (now nodes) 0 0 × (count < 2 ^ 40) ⌝ }
+    ensures { λ r. ⌜ Adds (minted group22 nodes 0 mint) (2048 * 2048) out count r ⌝ }
+{
+    if mint < 1 {
+        return count;
+    }
+    if !many_assets(nodes) {
+        return count;
+    }
+    mint_calls(nodes, mint, out, count)
+}

@@ -1,0 +1,296 @@
+// Codes 32, 33 and 35 to 39 of document 01: `deployer`, the Assigns of a Genesis, an entry's signers and clauses.
+use image::Image;
+use nodes::AFTER;
+use nodes::ASSIGN;
+use nodes::BURNS;
+use nodes::CONSERVES;
+use nodes::ENTRY;
+use nodes::IDENT;
+use nodes::INVARIANT;
+use nodes::LIMITS;
+use nodes::MINTS;
+use nodes::Marks;
+use nodes::NAME;
+use nodes::PARAM;
+use nodes::Past;
+use nodes::READS;
+use nodes::WRITES;
+ghost use mathlib.Core.Path.{_≡_};
+ghost use mathlib.Core.Bool.{Bool, true, false};
+ghost use mathlib.Core.List.{List, [], _∷_};
+ghost use Prim.Native.Nat.{ℕ, _+_, _*_, _-_, _<_, _≤_, _^_};
+ghost use Rattle.rules.specs.Sweep.{run};
+ghost use Rattle.rules.specs.Tree.{tree, assign, limits-denies-after, naming};
+ghost use Rattle.rules.specs.Vocabulary.{below, signers};
+ghost use Rattle.rules.specs.Resolve.{rule33, deployerIn, group32};
+ghost use Rattle.records.specs.Words.{old, new};
+ghost use Rattle.records.specs.Records.{Adds, Asks};
+ghost use Rattle.nodes.specs.Shown.{View, In, Worded, Admitted, treeOf};
+ghost use Rattle.nodes.specs.Marks.{Marks};
+ghost use Rattle.nodes.specs.State.{State, seen};
+ghost use Rattle.nodes.specs.Span.{Span};
+ghost use Rattle.resolve_clauses.specs.Said.{Table, Carrying, Deployed, Assets, told, deployed, listed, atWord, atNode, atSigner, identRules, IsEntry, clause32, item32, at33, clauseRules, clause36};
+
+// A rule about words: kind, on, code. At a node of this kind whose word is marked, or (off) is not, it finds its code.
+pub struct Rule(pub usize, pub bool, pub u16);
+
+// Whether the rule finds its offence in the word of node p.
+fn is_hit(rule: Rule, nodes: &[u8], base: usize, p: usize, marks: &Marks) -> bool
+    requires { ⌜ Worded (now nodes) base p ⌝ }
+    ensures { λ r. ⌜ Asks (told (λ P t. atWord rule P t p) nodes base marks) (rule .2) p r ⌝ }
+{
+    nodes::is_marked(marks, nodes, base, p) == rule.1
+}
+
+// Whether the rule finds its offence at node p.
+fn finds(rule: Rule, nodes: &[u8], base: usize, p: usize, marks: &Marks) -> bool
+    requires { ⌜ View (now nodes) base × Carrying (rule .0) × In (now nodes) base p ⌝ }
+    ensures { λ r. ⌜ Asks (told (λ P t. atNode rule P t p) nodes base marks) (rule .2) p r ⌝ }
+{
+    if nodes::kind(nodes, base, p) != rule.0 {
+        return false;
+    }
+    is_hit(rule, nodes, base, p, marks)
+}
+
+// The rule at the nodes from `from` up to `end`.
+fn words(
+    rule: Rule,
+    nodes: &[u8],
+    base: usize,
+    from: usize,
+    end: usize,
+    marks: &Marks,
+    out: &mut [u16],
+    count: usize,
+) -> usize
+    requires { ⌜ Table (now nodes) base (now marks) × Carrying (rule .0) × Span (now nodes) base from end × (count < 2 ^ 50) ⌝ }
+    ensures { λ r. ⌜ Adds (told (λ P t. run (atNode rule P t) from (end - from)) nodes base marks) 2048 out count r ⌝ }
+{
+    let mut total = count;
+    let mut p = from;
+    while p < end {
+        total = records::emit_if(finds(rule, nodes, base, p, marks), out, total, rule.2, p);
+        p += 1;
+    }
+    total
+}
+
+// The rule below a node: the Idents of an Invariant or a clause, the Names of a clause.
+fn within(
+    rule: Rule,
+    nodes: &[u8],
+    node: usize,
+    marks: &Marks,
+    out: &mut [u16],
+    count: usize,
+) -> usize
+    requires { ⌜ Table (now nodes) 0 (now marks) × Carrying (rule .0) × In (now nodes) 0 node × (count < 2 ^ 50) ⌝ }
+    ensures { λ r. ⌜ Adds (told (λ P t. below t (rule .0 ∷ []) node (atWord rule P t)) nodes 0 marks) 2048 out count r ⌝ }
+{
+    let end = nodes::end(nodes, 0, node);
+    words(rule, nodes, 0, node + 1, end, marks, out, count)
+}
+
+// The rule at the signer of a parameter: the Name after its Type.
+fn signer(rule: Rule, nodes: &[u8], p: usize, marks: &Marks, out: &mut [u16], count: usize) -> usize
+    requires { ⌜ Table (now nodes) 0 (now marks) × In (now nodes) 0 p × (count < 2 ^ 60) ⌝ }
+    ensures { λ r. ⌜ Adds (told (λ P t. atSigner (atWord rule P t) t p) nodes 0 marks) 1 out count r ⌝ }
+{
+    if nodes::kind(nodes, 0, p) != PARAM {
+        return count;
+    }
+    let s = nodes::end(nodes, 0, p + 2);
+    if nodes::end(nodes, 0, p) <= s {
+        return count;
+    }
+    records::emit_if(is_hit(rule, nodes, 0, s, marks), out, count, rule.2, s)
+}
+
+// The rule at the signers of an entry: 32, 35.
+pub fn signers(
+    rule: Rule,
+    nodes: &[u8],
+    entry: usize,
+    marks: &Marks,
+    out: &mut [u16],
+    count: usize,
+) -> usize
+    requires { ⌜ Table (now nodes) 0 (now marks) × In (now nodes) 0 entry × (0 < entry) × (count < 2 ^ 50) ⌝ }
+    ensures { λ r. ⌜ Adds (told (λ P t. signers t entry (atWord rule P t)) nodes 0 marks) 2048 out count r ⌝ }
+{
+    let end = nodes::end(nodes, 0, entry);
+    let mut total = count;
+    let mut p = entry + 1;
+    while p < end {
+        total = signer(rule, nodes, p, marks, out, total);
+        p = nodes::end(nodes, 0, p);
+    }
+    total
+}
+
+// 32 in a child of an entry, if it is a Limits, Denies or After clause.
+fn clause32(nodes: &[u8], p: usize, deployer: &Marks, out: &mut [u16], count: usize) -> usize
+    requires { ⌜ Deployed (now nodes) 0 (now deployer) × In (now nodes) 0 p × (count < 2 ^ 50) ⌝ }
+    ensures { λ r. ⌜ Adds (deployed (λ t. clause32 t p) nodes 0 deployer) 2048 out count r ⌝ }
+{
+    match nodes::kind(nodes, 0, p) {
+        LIMITS..=AFTER => within(Rule(IDENT, true, 32), nodes, p, deployer, out, count),
+        _ => count,
+    }
+}
+
+// 32 in the clauses of an entry that hold expressions.
+fn clauses32(nodes: &[u8], entry: usize, deployer: &Marks, out: &mut [u16], count: usize) -> usize
+    requires { ⌜ Deployed (now nodes) 0 (now deployer) × In (now nodes) 0 entry × (0 < entry) × (count < 2 ^ 45) ⌝ }
+    ensures { λ r. ⌜ Adds (deployed (λ t. below t limits-denies-after entry (identRules t)) nodes 0 deployer) (2048 * 2048) out count r ⌝ }
+{
+    let end = nodes::end(nodes, 0, entry);
+    let mut total = count;
+    let mut p = entry + 1;
+    while p < end {
+        total = clause32(nodes, p, deployer, out, total);
+        p = nodes::end(nodes, 0, p);
+    }
+    total
+}
+
+// 32 in an entry: its signers, the Idents of its statements, lent as their own part of the node area, and of its clauses.
+fn entry32(nodes: &[u8], entry: usize, deployer: &Marks, out: &mut [u16], count: usize) -> usize
+    requires { ⌜ Deployed (now nodes) 0 (now deployer) × IsEntry (now nodes) entry × (count < 2 ^ 44) ⌝ }
+    ensures { λ r. ⌜ Adds (deployed (λ t. deployerIn t entry) nodes 0 deployer) (2 ^ 23) out count r ⌝ }
+{
+    let signed = signers(Rule(NAME, true, 32), nodes, entry, deployer, out, count);
+    let first = nodes::first_statement(nodes, 0, entry);
+    let body = nodes::statements(nodes, 0, entry, first);
+    let end = nodes::end(nodes, 0, entry);
+    let said = words(
+        Rule(IDENT, true, 32),
+        body,
+        first,
+        first,
+        end,
+        deployer,
+        out,
+        signed,
+    );
+    clauses32(nodes, entry, deployer, out, said)
+}
+
+// 32 in an item, if it is an Entry or an Invariant.
+fn item32(nodes: &[u8], item: usize, deployer: &Marks, out: &mut [u16], count: usize) -> usize
+    requires { ⌜ Deployed (now nodes) 0 (now deployer) × In (now nodes) 0 item × (0 < item) × (count < 2 ^ 44) ⌝ }
+    ensures { λ r. ⌜ Adds (deployed (λ t. item32 t item) nodes 0 deployer) (2 ^ 23) out count r ⌝ }
+{
+    match nodes::kind(nodes, 0, item) {
+        ENTRY => entry32(nodes, item, deployer, out, count),
+        INVARIANT => within(Rule(IDENT, true, 32), nodes, item, deployer, out, count),
+        _ => count,
+    }
+}
+
+// 32: the items in order.
+fn items32(nodes: &[u8], deployer: &Marks, out: &mut [u16], count: usize) -> usize
+    requires { ⌜ Deployed (now nodes) 0 (now deployer) × In (now nodes) 0 0 × (count < 2 ^ 40) ⌝ }
+    ensures { λ r. ⌜ Adds (deployed group32 nodes 0 deployer) (2 ^ 34) out count r ⌝ }
+{
+    let end = nodes::end(nodes, 0, 0);
+    let mut total = count;
+    let mut p = 1;
+    while p < end {
+        total = item32(nodes, p, deployer, out, total);
+        p = nodes::end(nodes, 0, p);
+    }
+    total
+}
+
+// 32, `deployer`; nothing where no name of the image is this word.
+pub fn group32(image: &[u8], head: Image, out: &mut [u16], count: usize) -> usize
+    requires { ⌜ Admitted (now image) head × (count < 2 ^ 40) ⌝ }
+    ensures { λ r. ⌜ Adds (λ (_ : Unit {0}). group32 (tree (old image))) (2 ^ 34) out count r ⌝ }
+{
+    if names::number_of(image, head, b"deployer") == 0 {
+        return count;
+    }
+    let mut deployer = [false; 1024];
+    names::mark_word(image, head, b"deployer", &mut deployer);
+    items32(nodes::area(image, head), &deployer, out, count)
+}
+
+// 33 at a node of a Genesis: an Assign whose root, by Fields only, is no state name.
+fn rule33(nodes: &[u8], p: usize, state: &Marks) -> bool
+    requires { ⌜ View (now nodes) 0 × In (now nodes) 0 p ⌝ }
+    ensures { λ r. ⌜ Asks (seen (at33 p) nodes 0 state) 33 p r ⌝ }
+{
+    if nodes::kind(nodes, 0, p) != ASSIGN {
+        return false;
+    }
+    let root = nodes::down(Past::Fields, nodes, 0, p + 1);
+    if nodes::end(nodes, 0, p + 1) <= root {
+        return false;
+    }
+    if nodes::kind(nodes, 0, root) != IDENT {
+        return false;
+    }
+    !nodes::is_marked(state, nodes, 0, root)
+}
+
+// 33 in a Genesis, from statement to statement.
+pub fn assigns(nodes: &[u8], genesis: usize, state: &Marks, out: &mut [u16], count: usize) -> usize
+    requires { ⌜ State (now nodes) 0 (now state) × In (now nodes) 0 genesis × (0 < genesis) × (count < 2 ^ 50) ⌝ }
+    ensures { λ r. ⌜ Adds (seen (λ t. below t assign genesis (rule33 t)) nodes 0 state) 2048 out count r ⌝ }
+{
+    let end = nodes::end(nodes, 0, genesis);
+    let mut total = count;
+    let mut p = genesis + 1;
+    while p < end {
+        total = records::emit_if(rule33(nodes, p, state), out, total, 33, p);
+        p = nodes::end(nodes, 0, p);
+    }
+    total
+}
+
+// 36 to 39 in a child of an entry: the names that a clause may not name.
+fn clause(
+    nodes: &[u8],
+    p: usize,
+    state: &Marks,
+    declared: &Marks,
+    known: &Marks,
+    out: &mut [u16],
+    count: usize,
+) -> usize
+    requires { ⌜ Assets (now nodes) (now state) (now declared) (now known) × In (now nodes) 0 p × (count < 2 ^ 50) ⌝ }
+    ensures { λ r. ⌜ Adds (listed (λ t. clause36 t p) nodes state declared known) 2048 out count r ⌝ }
+{
+    match nodes::kind(nodes, 0, p) {
+        WRITES..=READS => within(Rule(NAME, false, 36), nodes, p, state, out, count),
+        CONSERVES => within(Rule(NAME, false, 37), nodes, p, known, out, count),
+        MINTS => within(Rule(NAME, false, 38), nodes, p, declared, out, count),
+        BURNS => within(Rule(NAME, false, 39), nodes, p, declared, out, count),
+        _ => count,
+    }
+}
+
+// 36 to 39: the clauses of an entry in order.
+pub fn clauses(
+    nodes: &[u8],
+    entry: usize,
+    state: &Marks,
+    declared: &Marks,
+    known: &Marks,
+    out: &mut [u16],
+    count: usize,
+) -> usize
+    requires { ⌜ Assets (now nodes) (now state) (now declared) (now known) × In (now nodes) 0 entry × (0 < entry) × (count < 2 ^ 45) ⌝ }
+    ensures { λ r. ⌜ Adds (listed (λ t. below t naming entry (clauseRules t)) nodes state declared known) (2048 * 2048) out count r ⌝ }
+{
+    let end = nodes::end(nodes, 0, entry);
+    let mut total = count;
+    let mut p = entry + 1;
+    while p < end {
+        total = clause(nodes, p, state, declared, known, out, total);
+        p = nodes::end(nodes, 0, p);
+    }
+    total
+}

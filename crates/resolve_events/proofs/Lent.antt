@@ -1,0 +1,67 @@
+-- What each function is lent: an Emit's Name, the whole area, an event in it, the statements of an item, the contract.
+use Prim.Native.Nat.{ℕ, _+_, _-_, _<_}
+use mathlib.Core.Path.{_≡_, refl, ap, _∙_, sym, subst}
+use mathlib.Core.Bool.{true}
+use mathlib.Core.List.{List, [], _∷_, List·Memᴰ·eq-of-singleton, List·Memᴰ·cases-cons}
+use mathlib.Core.Logic.{_⊎_, inl, inr, ⊎-elim}
+use native.Mathlib.Omega.{arith}
+use lib.ListN.{replicate}
+use Rattle.rules.specs.Sweep.{run, keep, has}
+use Rattle.rules.specs.All.{items}
+use Rattle.rules.specs.Tree.{event, bodied, emit, statement}
+use Rattle.rules.specs.Vocabulary.{below}
+use Rattle.rules.proofs.Reflect.{tells-has}
+use Rattle.records.proofs.Sweep.{run-below-later}
+use Rattle.nodes.specs.Shown.{View, Shown, In, Worded, treeOf}
+use Rattle.nodes.specs.First.{Starts}
+use Rattle.nodes.proofs.Parts.{kind-is}
+use Rattle.nodes.proofs.Shapes.{within, allIn, not-in}
+use Rattle.nodes.proofs.Turns.{named-at}
+use Rattle.nodes.proofs.Steps.{statements-of}
+use Rattle.places.specs.Places as places
+use Rattle.places.specs.Places.{notesBelow, lastOf}
+use Rattle.places.specs.declared.Note.the-variants as note
+use Rattle.places.proofs.Noting.{places-none}
+use Rattle.places.proofs.Reading.{last-is}
+use Rattle.resolve_events.specs.Emitted.{IsKind, Bodied, Noted, Emitted, Events, emitRules}
+
+-- the Name of an Emit
+pub emit-name : {nodes : List ℕ} {base m : ℕ} → View nodes base → IsKind nodes base m 26 → Worded nodes base (m + 1)
+unfolding has
+emit-name W I = named-at W (I .0) (omega arith, refl) (I .1 W)
+
+-- the nodes alone; the whole area, and an event in it
+module _ {nodes : List ℕ} {base : ℕ} {area last : List ℕ} (T : Emitted nodes base area last) where
+  abbrev pub noted-of : Noted nodes base last
+  noted-of = record { view = T .body .view; lasts = T .lasts }
+
+  abbrev pub area-of : View area 0
+  area-of = record { image = T .body .view .image; upto = T .upto; shown = T .shown }
+
+  pub event-in : (w : List ℕ) (v : ℕ) → v ≡ lastOf (treeOf (T .body .view)) event 0 w → (v ≡ 0 → ⊥) → IsKind area 0 v 5
+  event-in w v d n =
+      let L = last-is (treeOf (T .body .view)) event 0 w (omega (arith, n)) .is .0 in
+      let i : In area 0 v = rw d (within area-of (T .root) (L .after) (L .inside)) in
+      (i, λ W. sym (kind-is W i) ∙ kind-is area-of i ∙ ap (treeOf (T .body .view) .kind) d ∙ List·Memᴰ·eq-of-singleton (L .kind))
+
+-- the kinds of items that hold statements
+pub is-bodied : (k : ℕ) → Bodied k → (k ≡ 7) ⊎ (k ≡ 9)
+is-bodied k b = ⊎-elim inl (λ m. inr (List·Memᴰ·eq-of-singleton m)) (List·Memᴰ·cases-cons (tells-has k bodied .so b))
+
+pub is-item : (k : ℕ) → Bodied k → allIn (k ∷ []) items ≡ true
+unfolding allIn has
+is-item k b = ⊎-elim (λ (e : k ≡ 7). rw e refl) (λ (e : k ≡ 9). rw e refl) (is-bodied k b)
+
+-- an item's statements, lent
+abbrev pub lent : {nodes part last : List ℕ} {f k item : ℕ} (T : Events nodes last) → In nodes 0 item → 0 < item → treeOf (T .noted .view) .kind item ≡ k → Bodied k → Starts (T .noted .view) item f → Shown (T .noted .view .image) part f (treeOf (T .noted .view) .end item)
+    → Emitted part f nodes last
+lent T i z e k S P = record { body = statements-of (T .noted .view) i z (is-bodied _ (subst Bodied (sym e) k)) S P; lasts = T .noted .lasts; upto = T .noted .view .upto; shown = T .noted .view .shown; root = T .root }
+
+-- the Emits from the first statement of an item on are those of the item
+pub item-emits : {nodes : List ℕ} {p f : ℕ} (W : View nodes 0) → Starts W p f → run (λ i. keep (has (treeOf W .kind i) emit) (emitRules (treeOf W)) i) f (treeOf W .end p - f) ≡ below (treeOf W) emit p (emitRules (treeOf W))
+unfolding allIn has
+item-emits {p = p} {f = f} W S = run-below-later (treeOf W) emit (emitRules (treeOf W)) p f (S .after) (S .inside) (λ i a b. not-in statement (treeOf W .kind i) emit refl (S .none i a b))
+
+-- the contract, with the last event of each name noted in a fresh table
+abbrev pub events-of : {nodes last : List ℕ} (W : View nodes 0) → In nodes 0 0 → places.Noted (λ (W : View nodes 0). W .image) (λ W. notesBelow note.Last (treeOf W) event 0) (replicate 1024 0) last → Events nodes last
+events-of W i f = record { noted = record { view = W; lasts = f W (λ w. 0) (places-none (W .image) (W .shown .admitted)) }; root = i }

@@ -1,0 +1,149 @@
+// Emits: codes 30 and 31 of document 01.
+use nodes::EMIT;
+use nodes::ENTRY;
+use nodes::EVENT;
+use nodes::GENESIS;
+use places::Note;
+use places::Places;
+ghost use mathlib.Core.Path.{_≡_};
+ghost use mathlib.Core.List.{[], _∷_};
+ghost use Prim.Native.Nat.{_*_, _<_, _^_};
+ghost use lib.ListN.{length};
+ghost use Rattle.rules.specs.Tree.{event-param};
+ghost use Rattle.rules.specs.Vocabulary.{alone, below, arguments};
+ghost use Rattle.rules.specs.Resolve.{rule30, rule31, emits, group30};
+ghost use Rattle.records.specs.Words.{old};
+ghost use Rattle.records.specs.Records.{Adds, Asks};
+ghost use Rattle.nodes.specs.Shown.{View, In, treeOf};
+ghost use Rattle.resolve_events.specs.Emitted.{IsKind, Bodied, Noted, Emitted, Events, at30, item30, noted, emitted, swept30, events};
+
+// The number of arguments of an Emit: its children after the Name, each from the end of the one before it.
+fn arguments(nodes: &[u8], base: usize, emit: usize) -> usize
+    requires { ⌜ View (now nodes) base × IsKind (now nodes) base emit 26 ⌝ }
+    ensures { λ r. ⌜ ((W : View (old nodes) base) → r ≡ length (arguments (treeOf W) emit alone)) ⌝ }
+{
+    let end = nodes::end(nodes, base, emit);
+    let mut number = 0;
+    let mut p = emit + 2;
+    while p < end {
+        p = nodes::end(nodes, base, p);
+        number += 1;
+    }
+    number
+}
+
+// The number of parameters of an event: each is one node, after the Name.
+fn parameters(nodes: &[u8], event: usize) -> usize
+    requires { ⌜ View (now nodes) 0 × IsKind (now nodes) 0 event 5 ⌝ }
+    ensures { λ r. ⌜ ((W : View (old nodes) 0) → r ≡ length (below (treeOf W) event-param event alone)) ⌝ }
+{
+    nodes::end(nodes, 0, event) - (event + 2)
+}
+
+// 30 at an Emit: its event is not declared.
+fn rule30(nodes: &[u8], base: usize, emit: usize, last: &Places) -> bool
+    requires { ⌜ Noted (now nodes) base (now last) × IsKind (now nodes) base emit 26 ⌝ }
+    ensures { λ r. ⌜ Asks (noted (λ t. rule30 t emit) nodes base last) 30 emit r ⌝ }
+{
+    places::at(last, nodes, base, emit + 1) == 0
+}
+
+// 31 at an Emit: it has another number of arguments than the last event of its name has parameters.
+fn rule31(nodes: &[u8], base: usize, emit: usize, area: &[u8], last: &Places) -> bool
+    requires { ⌜ Emitted (now nodes) base (now area) (now last) × IsKind (now nodes) base emit 26 ⌝ }
+    ensures { λ r. ⌜ Asks (emitted (λ t. rule31 t emit) nodes base area last) 31 emit r ⌝ }
+{
+    let event = places::at(last, nodes, base, emit + 1);
+    if event == 0 {
+        return false;
+    }
+    arguments(nodes, base, emit) != parameters(area, event)
+}
+
+// 30 and 31 at a node, if it is an Emit.
+fn emit(
+    nodes: &[u8],
+    base: usize,
+    p: usize,
+    area: &[u8],
+    last: &Places,
+    out: &mut [u16],
+    count: usize,
+) -> usize
+    requires { ⌜ Emitted (now nodes) base (now area) (now last) × In (now nodes) base p × (count < 2 ^ 55) ⌝ }
+    ensures { λ r. ⌜ Adds (emitted (at30 p) nodes base area last) 2 out count r ⌝ }
+{
+    if nodes::kind(nodes, base, p) != EMIT {
+        return count;
+    }
+    let total = records::emit_if(rule30(nodes, base, p, last), out, count, 30, p);
+    records::emit_if(rule31(nodes, base, p, area, last), out, total, 31, p)
+}
+
+// 30 and 31 in an item's statements, each from the end of the one before it; they are lent as their own part of the node area, which starts with number `base`.
+fn statements(
+    nodes: &[u8],
+    base: usize,
+    area: &[u8],
+    last: &Places,
+    out: &mut [u16],
+    count: usize,
+) -> usize
+    requires { ⌜ Emitted (now nodes) base (now area) (now last) × (count < 2 ^ 50) ⌝ }
+    ensures { λ r. ⌜ Adds (swept30 nodes base area last) 4096 out count r ⌝ }
+{
+    let end = base + nodes.len() / 16;
+    let mut total = count;
+    let mut p = base;
+    while p < end {
+        total = emit(nodes, base, p, area, last, out, total);
+        p = nodes::end(nodes, base, p);
+    }
+    total
+}
+
+// 30 and 31 in an item, if it is of this kind.
+fn item(
+    kind: usize,
+    nodes: &[u8],
+    item: usize,
+    last: &Places,
+    out: &mut [u16],
+    count: usize,
+) -> usize
+    requires { ⌜ Events (now nodes) (now last) × Bodied kind × In (now nodes) 0 item × (0 < item) × (count < 2 ^ 50) ⌝ }
+    ensures { λ r. ⌜ Adds (events (item30 kind item) nodes last) 4096 out count r ⌝ }
+{
+    if nodes::kind(nodes, 0, item) != kind {
+        return count;
+    }
+    let first = nodes::first_statement(nodes, 0, item);
+    let body = nodes::statements(nodes, 0, item, first);
+    statements(body, first, nodes, last, out, count)
+}
+
+// 30 and 31 in the items of this kind, in order.
+fn emits(kind: usize, nodes: &[u8], last: &Places, out: &mut [u16], count: usize) -> usize
+    requires { ⌜ Events (now nodes) (now last) × Bodied kind × (count < 2 ^ 45) ⌝ }
+    ensures { λ r. ⌜ Adds (events (λ t. emits t (kind ∷ [])) nodes last) (4096 * 2048) out count r ⌝ }
+{
+    let end = nodes::end(nodes, 0, 0);
+    let mut total = count;
+    let mut p = 1;
+    while p < end {
+        total = item(kind, nodes, p, last, out, total);
+        p = nodes::end(nodes, 0, p);
+    }
+    total
+}
+
+// 30 and 31: the entries, then each Genesis.
+pub fn group30(nodes: &[u8], out: &mut [u16], count: usize) -> usize
+    requires { ⌜ View (now nodes) 0 × In (now nodes) 0 0 × (count < 2 ^ 40) ⌝ }
+    ensures { λ r. ⌜ Adds (λ (W : View (old nodes) 0). group30 (treeOf W)) (2 * 4096 * 2048) out count r ⌝ }
+{
+    let mut last = [0u16; 1024];
+    places::note_names(Note::Last, EVENT, nodes, &mut last);
+    let total = emits(ENTRY, nodes, &last, out, count);
+    emits(GENESIS, nodes, &last, out, total)
+}

@@ -1,0 +1,14 @@
+pub mod Laws
+pub mod Types
+pub mod Reading
+pub mod Bounds
+pub mod Words
+pub mod Nodes
+pub mod Written
+pub mod Read
+pub mod Pairs
+pub mod Turns
+pub mod Same
+pub mod Keys
+pub mod Chain
+pub mod Sought
