@@ -6,6 +6,7 @@ use mathlib.Core.List.{List, [], _∷_, List·Memᴰ·eq-of-singleton, List·Mem
 use mathlib.Core.Logic.{_⊎_, inl, inr, ⊎-elim}
 use native.Mathlib.Omega.{arith}
 use lib.ListN.{replicate}
+use Rattle.image.proofs.Given.{given}
 use Rattle.rules.specs.Sweep.{run, keep, has}
 use Rattle.rules.specs.All.{items}
 use Rattle.rules.specs.Tree.{event, bodied, emit, statement}
@@ -14,7 +15,7 @@ use Rattle.rules.proofs.Reflect.{tells-has}
 use Rattle.records.proofs.Sweep.{run-below-later}
 use Rattle.nodes.specs.Shown.{View, Shown, In, Worded, treeOf}
 use Rattle.nodes.specs.First.{Starts}
-use Rattle.nodes.proofs.Parts.{kind-is}
+use Rattle.nodes.proofs.Parts.{kind-is, inside, there, past}
 use Rattle.nodes.proofs.Shapes.{within, allIn, not-in}
 use Rattle.nodes.proofs.Turns.{named-at}
 use Rattle.nodes.proofs.Steps.{statements-of}
@@ -37,6 +38,17 @@ module _ {nodes : List ℕ} {base : ℕ} {area last : List ℕ} (T : Emitted nod
 
   abbrev pub area-of : View area 0
   area-of = record { image = T .body .view .image; upto = T .upto; shown = T .shown }
+
+  -- the Emit stands in the whole area too
+  pub emit-in : {m : ℕ} → IsKind nodes base m 26 → IsKind area 0 m 26
+  emit-in {m} I =
+      let W = T .body .view in
+      let u = inside W (I .0) in
+      let v = W .shown .high in
+      let e = given (W .image) (W .shown .admitted) .nodes .root-end in
+      let z = past area-of (T .root) .1 in
+      let i : In area 0 m = there area-of (omega arith) (omega arith) in
+      (i, λ X. sym (kind-is X i) ∙ kind-is area-of i ∙ I .1 W)
 
   pub event-in : (w : List ℕ) (v : ℕ) → v ≡ lastOf (treeOf (T .body .view)) event 0 w → (v ≡ 0 → ⊥) → IsKind area 0 v 5
   event-in w v d n =

@@ -1,4 +1,6 @@
 // Emits: codes 30 and 31 of document 01.
+use image::Cursor;
+use image::Step;
 use nodes::EMIT;
 use nodes::ENTRY;
 use nodes::EVENT;
@@ -17,19 +19,23 @@ ghost use Rattle.records.specs.Records.{Adds, Asks};
 ghost use Rattle.nodes.specs.Shown.{View, In, treeOf};
 ghost use Rattle.resolve_events.specs.Emitted.{IsKind, Bodied, Noted, Emitted, Events, at30, item30, noted, emitted, swept30, events};
 
-// The number of arguments of an Emit: its children after the Name, each from the end of the one before it.
-fn arguments(nodes: &[u8], base: usize, emit: usize) -> usize
-    requires { ⌜ View (now nodes) base × IsKind (now nodes) base emit 26 ⌝ }
-    ensures { λ r. ⌜ ((W : View (old nodes) base) → r ≡ length (arguments (treeOf W) emit alone)) ⌝ }
+// The number of arguments of an Emit: a cursor over its children after the Name, moved past one child at each step.
+fn arguments(area: &[u8], emit: usize) -> usize
+    requires { ⌜ View (now area) 0 × IsKind (now area) 0 emit 26 ⌝ }
+    ensures { λ r. ⌜ ((W : View (old area) 0) → r ≡ length (arguments (treeOf W) emit alone)) ⌝ }
 {
-    let end = nodes::end(nodes, base, emit);
+    let end = nodes::end(area, 0, emit);
     let mut number = 0;
-    let mut p = emit + 2;
-    while p < end {
-        p = nodes::end(nodes, base, p);
-        number += 1;
+    let mut children = Cursor { at: emit + 2, end };
+    loop {
+        match children.step(area) {
+            Step::Child(_, rest) => {
+                number += 1;
+                children = rest;
+            }
+            Step::End => return number,
+        }
     }
-    number
 }
 
 // The number of parameters of an event: each is one node, after the Name.
@@ -57,7 +63,7 @@ fn rule31(nodes: &[u8], base: usize, emit: usize, area: &[u8], last: &Places) ->
     if event == 0 {
         return false;
     }
-    arguments(nodes, base, emit) != parameters(area, event)
+    arguments(area, emit) != parameters(area, event)
 }
 
 // 30 and 31 at a node, if it is an Emit.

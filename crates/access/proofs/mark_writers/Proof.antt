@@ -8,9 +8,13 @@ returns : tie.Need-returns
 unfolding marked
 returns c = λ M.
     marks-words writers
-    (c .mark-word7 .ensures _ (c .before .before .before .mark-word6 .ensures _ (c .before .before .before .before .before .before .mark-word5 .ensures _ (c .before .before .before .before .before .before .before .before .before .mark-word4 .ensures _ (c .before .before .before .before .before .before .before .before .before .before .before .before .mark-word3 .ensures _ (c .before .before .before .before .before .before .before .before .before .before .before .before .before .before .before .mark-word2 .ensures _ (c .before .before .before .before .before .before .before .before .before .before .before .before .before .before .before .before .before .before .mark-word .ensures _ M)))))))
+    (c .mark-word7 .ensures _
+    (c .before .before .before .mark-word6 .ensures _
+    (c .before .before .before .before .before .before .mark-word5 .ensures _
+    (c .before .before .before .before .before .before .before .before .before .mark-word4 .ensures _
+    (c .before .before .before .before .before .before .before .before .before .before .before .before .mark-word3 .ensures _
+    (c .before .before .before .before .before .before .before .before .before .before .before .before .before .before .before .mark-word2 .ensures _
+    (c .before .before .before .before .before .before .before .before .before .before .before .before .before .before .before .before .before .before .mark-word .ensures _ M)))))))
 
 pub mark-writers-spec : {M : Type 1} → statement M
-mark-writers-spec =
-    tie.close
-    (tie.spec (λ c. search needs) (λ c κs. search needs) (λ c. search needs) (λ c κs. search needs) (λ c. search needs) (λ c κs. search needs) (λ c. search needs) (λ c κs. search needs) (λ c. search needs) (λ c κs. search needs) (λ c. search needs) (λ c κs. search needs) (λ c. search needs) (λ c κs. search needs) returns)
+mark-writers-spec = tie.close (tie.spec (λ c. search needs) (λ c κs. search needs) (λ c. search needs) (λ c κs. search needs) (λ c. search needs) (λ c κs. search needs) (λ c. search needs) (λ c κs. search needs) (λ c. search needs) (λ c κs. search needs) (λ c. search needs) (λ c κs. search needs) (λ c. search needs) (λ c κs. search needs) returns)

@@ -34,4 +34,10 @@ returns-2 c = let e = c .before .before .before .before .before .before .before 
 )
 
 pub entry-spec : {M : Type 1} → statement M
-entry-spec = tie.close (tie.spec (λ c κs. search needs) returns (λ c κs. let l = c .before .before .before .before .before .pre .3 in (by-signers (c .before .before .before .before .before .pre .0), c .before .before .before .before .before .pre .1, c .before .before .before .before .before .pre .2, omega arith)) (λ c κs. let l = c .before .before .before .before .before .before .before .before .before .pre .3 in let f = c .before .before .before .signers .ensures .few in (by-clauses (c .before .before .before .before .before .before .before .before .before .pre .0), c .before .before .before .before .before .before .before .before .before .pre .1, c .before .before .before .before .before .before .before .before .before .pre .2, omega arith)) entry-calls-requires (λ c. search needs) returns-2)
+entry-spec =
+    tie.close
+    (tie.spec
+    (λ c κs. search needs) returns
+    (λ c κs. let l = c .before .before .before .before .before .pre .3 in (by-signers (c .before .before .before .before .before .pre .0), c .before .before .before .before .before .pre .1, c .before .before .before .before .before .pre .2, omega arith))
+    (λ c κs. let l = c .before .before .before .before .before .before .before .before .before .pre .3 in let f = c .before .before .before .signers .ensures .few in (by-clauses (c .before .before .before .before .before .before .before .before .before .pre .0), c .before .before .before .before .before .before .before .before .before .pre .1, c .before .before .before .before .before .before .before .before .before .pre .2, omega arith))
+    entry-calls-requires (λ c. search needs) returns-2)

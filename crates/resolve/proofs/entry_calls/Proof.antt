@@ -42,4 +42,12 @@ returns c = let d = c .before .before .before .before .before .before .before .b
     )
 
 pub entry-calls-spec : {M : Type 1} → statement M
-entry-calls-spec = tie.close (tie.spec (λ c κs. let E = c .before .before .before .pre .1 in (by-typing (c .before .before .before .pre .0), E .here, E .low)) (λ c κs. let E = c .before .before .before .before .pre .1 in (c .before .before .before .before .pre .0 .view, E .here, E .low)) (λ c κs. let W = c .before .before .before .before .before .pre .0 .view in record { view = W; here = c .before .before .before .before .before .pre .1 .here; first = c .first-statement .ensures W }) calls40-requires (λ c κs. let E = c .before .before .before .before .before .before .before .before .before .before .before .before .pre .1 in (by-typing (c .before .before .before .before .before .before .before .before .before .before .before .before .pre .0), E .here, E .low)) calls34-requires (λ c. search needs) returns)
+entry-calls-spec =
+    tie.close
+    (tie.spec
+    (λ c κs. let E = c .before .before .before .pre .1 in (by-typing (c .before .before .before .pre .0), E .here, E .low))
+    (λ c κs. let E = c .before .before .before .before .pre .1 in (c .before .before .before .before .pre .0 .view, E .here, E .low))
+    (λ c κs. let W = c .before .before .before .before .before .pre .0 .view in record { view = W; here = c .before .before .before .before .before .pre .1 .here; first = c .first-statement .ensures W })
+    calls40-requires
+    (λ c κs. let E = c .before .before .before .before .before .before .before .before .before .before .before .before .pre .1 in (by-typing (c .before .before .before .before .before .before .before .before .before .before .before .before .pre .0), E .here, E .low))
+    calls34-requires (λ c. search needs) returns)

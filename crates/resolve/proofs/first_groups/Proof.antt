@@ -23,4 +23,13 @@ returns c = let d = c .before .before .before .before .before .before .before .b
     (added-by (λ T. T .view) (λ T. refl) (c .before .before .group30 .ensures)))))))
 
 pub first-groups-spec : {M : Type 1} → statement M
-first-groups-spec = tie.close (tie.spec (λ c κs. let T = c .before .before .before .pre in (T .view, T .root, omega arith)) (λ c κs. let T = c .before .before .before .before .before .before .before .pre in let f = c .before .before .before .group20 .ensures .few in (T .view, T .root, omega arith)) (λ c κs. let T = c .before .before .before .before .before .before .before .before .before .before .before .pre in let f = c .before .before .before .before .before .before .before .group20 .ensures .few in let g = c .before .before .before .group21 .ensures .few in (by-mint T, T .root, omega arith)) (λ c κs. let T = c .before .before .before .before .before .before .before .before .before .before .before .before .before .before .before .pre in let f = few22 (c .before .before .before) in (T .view, T .root, omega arith)) (λ c κs. let T = c .before .before .before .before .before .before .before .before .before .before .before .before .before .before .before .before .before .before .before .pre in let f = few22 (c .before .before .before .before .before .before .before) in let g = c .before .before .before .group23 .ensures .few in (by-name T, T .root, omega arith)) (λ c κs. let T = c .before .before .before .before .before .before .before .before .before .before .before .before .before .before .before .before .before .before .before .before .before .before .before .pre in let f = few22 (c .before .before .before .before .before .before .before .before .before .before .before) in let g = c .before .before .before .before .before .before .before .group23 .ensures .few in let h = c .before .before .before .group24 .ensures .few in (T .view, T .root, omega arith)) (λ c. search needs) returns)
+first-groups-spec =
+    tie.close
+    (tie.spec
+    (λ c κs. let T = c .before .before .before .pre in (T .view, T .root, omega arith))
+    (λ c κs. let T = c .before .before .before .before .before .before .before .pre in let f = c .before .before .before .group20 .ensures .few in (T .view, T .root, omega arith))
+    (λ c κs. let T = c .before .before .before .before .before .before .before .before .before .before .before .pre in let f = c .before .before .before .before .before .before .before .group20 .ensures .few in let g = c .before .before .before .group21 .ensures .few in (by-mint T, T .root, omega arith))
+    (λ c κs. let T = c .before .before .before .before .before .before .before .before .before .before .before .before .before .before .before .pre in let f = few22 (c .before .before .before) in (T .view, T .root, omega arith))
+    (λ c κs. let T = c .before .before .before .before .before .before .before .before .before .before .before .before .before .before .before .before .before .before .before .pre in let f = few22 (c .before .before .before .before .before .before .before) in let g = c .before .before .before .group23 .ensures .few in (by-name T, T .root, omega arith))
+    (λ c κs. let T = c .before .before .before .before .before .before .before .before .before .before .before .before .before .before .before .before .before .before .before .before .before .before .before .pre in let f = few22 (c .before .before .before .before .before .before .before .before .before .before .before) in let g = c .before .before .before .before .before .before .before .group23 .ensures .few in let h = c .before .before .before .group24 .ensures .few in (T .view, T .root, omega arith))
+    (λ c. search needs) returns)

@@ -3,10 +3,6 @@ use borrow.Author.Needs.{needs}
 use native.Mathlib.Omega.{arith}
 use mathlib.Core.Path.{refl, sym, _∙_}
 use mathlib.Core.Logic.{inl}
-use borrow.Author.Needs.{needs}
-use mathlib.Core.Logic.{inl}
-use mathlib.Core.Path.{_∙_, refl, sym}
-use native.Mathlib.Omega.{arith}
 use Rattle.records.proofs.Laws.{added-as, added-by, added-join, added-nothing}
 use Rattle.records.proofs.Sweep.{has-not, has-one, keep-none, keep-one}
 use Rattle.nodes.proofs.Flat.{flat-calls}
@@ -37,4 +33,10 @@ returns-2 c = let P = c .before .before .before .before .before .before .before 
     (c .before .before .calls34 .ensures)))
 
 pub genesis-spec : {M : Type 1} → statement M
-genesis-spec = tie.close (tie.spec (λ c κs. search needs) returns (λ c κs. let P = c .before .before .before .before .before .pre in let l = P .3 in (by-assigns (P .0), P .1, P .2, omega arith)) (λ c κs. let P = c .before .before .before .before .before .before .before .before .pre in (P .0 .view, P .1, P .2)) (λ c κs. let P = c .before .before .before .before .before .before .before .before .before .pre in let W = P .0 .view in record { view = W; here = P .1; first = c .first-statement .ensures W }) calls34-requires (λ c. search needs) returns-2)
+genesis-spec =
+    tie.close
+    (tie.spec
+    (λ c κs. search needs) returns (λ c κs. let P = c .before .before .before .before .before .pre in let l = P .3 in (by-assigns (P .0), P .1, P .2, omega arith))
+    (λ c κs. let P = c .before .before .before .before .before .before .before .before .pre in (P .0 .view, P .1, P .2))
+    (λ c κs. let P = c .before .before .before .before .before .before .before .before .before .pre in let W = P .0 .view in record { view = W; here = P .1; first = c .first-statement .ensures W })
+    calls34-requires (λ c. search needs) returns-2)

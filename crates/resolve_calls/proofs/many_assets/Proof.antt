@@ -4,11 +4,6 @@ use native.Mathlib.Omega.{arith}
 use Prim.Native.Nat.{ℕ, _-_, _<_, _≤_}
 use mathlib.Core.Path.{_≡_, refl, sym, _∙_}
 use mathlib.Core.Bool.{false}
-use native.Mathlib.Omega.{arith}
-use borrow.Author.Needs.{needs}
-use mathlib.Core.Path.{_≡_, refl, _∙_, sym}
-use mathlib.Core.Bool.{false}
-use Prim.Native.Nat.{ℕ, _-_, _<_, _≤_}
 use Rattle.rules.specs.Sweep.{has}
 use Rattle.rules.specs.Tree.{asset, declarations}
 use Rattle.nodes.specs.Shown.{View, treeOf}
@@ -29,7 +24,6 @@ loop-holds : tie.Need-loop-holds Inv-loop μ-loop
 loop-holds c = let W = c .before .before .pre .0 in let S = span-below W (c .before .before .pre .1) (c .end .ensures W) in let h = S .order in (S, omega arith, h, λ W. one-starts (treeOf W))
 
 -- where the walk goes on to, and that no Asset is left out
-
 moved : (c : tie.After-next-declaration Inv-loop μ-loop) → (c .before .before .loop .next < c .next-declaration .result) × (c .next-declaration .result ≤ c .before .before .before .end .result)
 moved c = let W = c .before .before .before .before .before .pre .0 in declaration-moves W (search needs) (c .before .before .loop .inv .1) (c .before .before .before .before .before .pre .1) (c .before .before .before .end .ensures W) (c .before .loop-test .taken) (c .next-declaration .ensures W)
 

@@ -3,10 +3,6 @@ use borrow.Author.Needs.{needs}
 use native.Mathlib.Omega.{arith}
 use Prim.Native.Nat.{_-_, _<_, _≤_}
 use mathlib.Core.Path.{refl, sym}
-use native.Mathlib.Omega.{arith}
-use borrow.Author.Needs.{needs}
-use mathlib.Core.Path.{refl, sym}
-use Prim.Native.Nat.{_-_, _<_, _≤_}
 use Rattle.rules.specs.Sweep.{has}
 use Rattle.rules.specs.Tree.{field, declarations}
 use Rattle.nodes.proofs.Names.{marks-as}
@@ -31,7 +27,6 @@ loop-holds : tie.Need-loop-holds Inv-loop μ-loop
 loop-holds c = let W = c .before .before .before .pre .0 .view in let S = span-below W (c .before .before .before .pre .1) (c .end .ensures W) in (S, typed-starts (S .order))
 
 -- the next item or field
-
 moved : (c : tie.After-next-declaration Inv-loop μ-loop) → (c .before .before .before .before .loop .p < c .next-declaration .result) × (c .next-declaration .result ≤ c .before .before .before .before .before .end .result)
 moved c = let W = c .before .before .before .before .before .before .before .before .pre .0 .view in declaration-moves W (search needs) (c .before .before .before .before .loop .inv .1 .low) (c .before .before .before .before .before .before .before .before .pre .1) (c .before .before .before .before .before .end .ensures W) (c .before .before .before .loop-test .taken) (c .next-declaration .ensures W)
 

@@ -3,10 +3,6 @@ use borrow.Author.Needs.{needs}
 use native.Mathlib.Omega.{arith}
 use Prim.Native.Nat.{_+_, _-_, _<_, _≤_}
 use mathlib.Core.Path.{refl}
-use borrow.Author.Needs.{needs}
-use native.Mathlib.Omega.{arith}
-use mathlib.Core.Path.{refl}
-use Prim.Native.Nat.{_+_, _-_, _<_, _≤_}
 use Rattle.rules.specs.Sweep.{has}
 use Rattle.rules.specs.Tree.{assign}
 use Rattle.rules.specs.Resolve.{rule33}
@@ -30,7 +26,6 @@ loop-holds : tie.Need-loop-holds Inv-loop μ-loop
 loop-holds c = let W = c .before .before .before .pre .0 .view in let S = span-below W (c .before .before .before .pre .1) (c .end .ensures W) in (S, sweep-starts (S .order))
 
 -- the next statement
-
 below : (c : tie.After-end2 Inv-loop μ-loop) → c .before .before .before .before .before .before .before .before .before .before .before .args .genesis < c .before .before .before .before .before .before .before .loop .p
 below c = let l = c .before .before .before .before .before .before .before .loop .inv .1 .low in omega arith
 

@@ -29,4 +29,12 @@ returns-6 : tie.Need-returns-6
 returns-6 c = added-nothing (λ T. let e = c .before .before .before .kind .ensures (T .view) in let l = c .if2 .left in let m = c .before .before .match .rest in keep-none _ _ (other-36 (treeOf (T .view)) _ (λ d. omega arith) (λ d. omega arith) (λ d. m .0 .0 .1 (e ∙ d)) (λ d. m .0 .1 (e ∙ d)) (λ d. m .1 (e ∙ d))))
 
 pub clause-spec : {M : Type 1} → statement M
-clause-spec = tie.close (tie.spec (λ c κs. search needs) (λ c κs. (by-known (c .before .before .before .before .before .pre .0), inl refl, c .before .before .before .before .before .pre .1, c .before .before .before .before .before .pre .2)) (λ c κs. (by-declared (c .before .before .before .before .before .pre .0), inl refl, c .before .before .before .before .before .pre .1, c .before .before .before .before .before .pre .2)) (λ c κs. (by-declared (c .before .before .before .before .before .pre .0), inl refl, c .before .before .before .before .before .pre .1, c .before .before .before .before .before .pre .2)) (λ c κs. (by-state (c .before .before .before .before .before .before .before .pre .0), inl refl, c .before .before .before .before .before .before .before .pre .1, c .before .before .before .before .before .before .before .pre .2)) (λ c. search needs) returns (λ c. search needs) returns-2 (λ c. search needs) returns-3 (λ c. search needs) returns-4 returns-5 returns-6)
+clause-spec =
+    tie.close
+    (tie.spec
+    (λ c κs. search needs)
+    (λ c κs. (by-known (c .before .before .before .before .before .pre .0), inl refl, c .before .before .before .before .before .pre .1, c .before .before .before .before .before .pre .2))
+    (λ c κs. (by-declared (c .before .before .before .before .before .pre .0), inl refl, c .before .before .before .before .before .pre .1, c .before .before .before .before .before .pre .2))
+    (λ c κs. (by-declared (c .before .before .before .before .before .pre .0), inl refl, c .before .before .before .before .before .pre .1, c .before .before .before .before .before .pre .2))
+    (λ c κs. (by-state (c .before .before .before .before .before .before .before .pre .0), inl refl, c .before .before .before .before .before .before .before .pre .1, c .before .before .before .before .before .before .before .pre .2))
+    (λ c. search needs) returns (λ c. search needs) returns-2 (λ c. search needs) returns-3 (λ c. search needs) returns-4 returns-5 returns-6)
