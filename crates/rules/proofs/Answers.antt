@@ -10,7 +10,9 @@ use lib.Dec.{ltb, eqb}
 use lib.ListN.{length, getD, set, take, drop, length-set}
 use lib.Seq.{sets, length-sets, ext-getD, getD-set-same, getD-set-other}
 use Rattle.image.specs.Pick.{pick}
-use Rattle.image.specs.Admit.{refusal}
+use Rattle.image.specs.Text.{namesOk}
+use Rattle.image.specs.Tree.{treeOk, depthOk, usedOk}
+use Rattle.image.specs.Admit.{nodeCount, nameCount, nodesOf, namesOf, textPart, lengthOk, versionOk, countsOk, layoutOk, headerRefusal, bodyRefusal, refusal}
 use Rattle.rules.specs.Tree.{Tree, tree}
 use Rattle.rules.specs.Vocabulary.{Rec}
 use Rattle.rules.specs.Model.{StateName, isState, DeclaredAsset, isDeclaredAsset, KnownAsset, isKnownAsset}
@@ -27,12 +29,28 @@ use Rattle.rules.proofs.Full.{full, only-full}
 use Rattle.rules.proofs.Passes.{judges-resolve, judges-access, judges-linear}
 
 -- an image is admitted or refused
-decide : (s : List ℕ) → Admitted s ⊎ Refused s
+pub decide : (s : List ℕ) → Admitted s ⊎ Refused s
 decide s = go (eqb (refusal s) 0) refl
   where
     go : (b : Bool) → eqb (refusal s) 0 ≡ b → Admitted s ⊎ Refused s
     go true e = inl (eqb-true (refusal s) 0 e)
     go false e = inr (eqb-false (refusal s) 0 e)
+
+-- the numbers of refusal end at 8
+pick-most : (b : Bool) (x y : ℕ) → x ≤ 8 → y ≤ 8 → pick b x y ≤ 8
+pick-most true x y h g = h
+pick-most false x y h g = g
+
+four-most : (a b c d : Bool) (i j k l : ℕ) → i ≤ 8 → j ≤ 8 → k ≤ 8 → l ≤ 8 → pick a (pick b (pick c (pick d 0 i) j) k) l ≤ 8
+four-most a b c d i j k l e f g h =
+    pick-most a _ l (pick-most b _ k (pick-most c _ j (pick-most d 0 i (omega arith) e) f) g) h
+
+pub refusal-most : (s : List ℕ) → refusal s ≤ 8
+unfolding refusal headerRefusal bodyRefusal
+refusal-most s =
+    pick-most (eqb (headerRefusal s) 0) _ _
+    (four-most (namesOk (namesOf s) (textPart s) (nameCount s)) (treeOk (nodesOf s) (namesOf s) (textPart s) (nodeCount s) (nameCount s)) (depthOk (nodesOf s) (nodeCount s)) (usedOk (nodesOf s) (nodeCount s) (nameCount s)) 8 7 6 5 (omega arith) (omega arith) (omega arith) (omega arith))
+    (four-most (lengthOk s) (versionOk s) (countsOk s) (layoutOk s (nodeCount s) (nameCount s)) 4 3 2 1 (omega arith) (omega arith) (omega arith) (omega arith))
 
 -- A pass
 

@@ -1,8 +1,14 @@
--- What an image is answered, all at once, and computed: for the tables of specs/Patterns. To unfold one of these is to unfold all
--- that its `unfolding` line names: every definition of the rules.
-use Prim.Native.Nat.{ℕ}
-use mathlib.Core.List.{List, [], _++_}
-use lib.Dec.{eqb}
+-- What an image is answered, all at once: for the tables of specs/Patterns. `Answered` speaks of the real definitions, `refusal`,
+-- `passAnswer` of each pass, `offences` and `listAnswer`, and of no others. `outcome` only puts them side by side, so that a row is
+-- computed as one value. Their bodies are not written out a second time: a form with each pass computed once was no faster, since of
+-- a pass's answer antt computes the list up to its first record. What the list answers is not computed: it follows from the row, for
+-- a buffer of every length. To unfold `outcome` is to unfold all that its `unfolding` line names: every definition of the rules.
+use Prim.Native.Nat.{ℕ, _*_, _<_, _≤_}
+use mathlib.Core.Path.{_≡_, ap, _∙_, sym}
+use mathlib.Core.Bool.{Bool}
+use mathlib.Core.List.{List, []}
+use borrow.Author.Tests.{lt-ltb, le-ltb, ne-eqb}
+use lib.Dec.{ltb, eqb}
 use lib.ListN.{length}
 use Rattle.image.specs.Pick.{pick, every, some as image-some, count}
 use Rattle.image.specs.Table.{familyOf, partAt, afterFrom, endsFrom, fits}
@@ -17,31 +23,70 @@ use Rattle.rules.specs.Resolve.{rule20, group20, rule21, group21, manyAs
 use Rattle.rules.specs.Access.{rule50, group50, isUnwritten, isWrite, assignRule, callRule, statementRules, group51, access}
 use Rattle.rules.specs.Linear.{produces, isRow, placeOf, isAlias, rule60, isBurned, isEarlier, isLater, marks, isCounted, uses, judged, rowRule, linearEntry, linear}
 use Rattle.rules.specs.All.{offences}
-use Rattle.rules.specs.Answers.{Answer, firstOf, unlessRefused, passAnswer, Reply, ask, Listing, listAnswer, listBuffer}
+use Rattle.rules.specs.Answers.{Answer, passAnswer, Reply, ask, Listing, listRefused, listed, listAnswer, listBuffer}
 
 -- the refusal, the answers of the three passes, and the full list (none where the image is refused)
 pub record Outcome : Type 0 where
   pub refused : ℕ
-  pub resolve : Answer
-  pub access : Answer
-  pub linear : Answer
+  pub resolving : Answer
+  pub accessing : Answer
+  pub linearity : Answer
   pub list : List Rec
 
 unfoldable pub outcome : List ℕ → Outcome
-unfolding every image-some count familyOf partAt afterFrom endsFrom fits classOf wordAt less nameAt tilesFrom kidsFrom childrenFit carries nameFits nodeOk endsPast shallow isNamed usedIn layoutOk headerRefusal bodyRefusal refusal keep some first run has same hasWord only below someBelow firstBelow calls someCall isChild arguments someArgument named declares firstNamed down atBottom isIdent isField signers typed isState isStateTyped isDeclaredAsset inner isKnownAsset rule20 group20 rule21 group21 manyAssets rule22 mintCalls group22 comma typeText signature firstSigned rule23 group23 rule24 rule25 rule26 rule27 rule28 rule29 letRules entryNames group24 rule30 lastEvent unlike rule31 emits group30 rule32 deployerIn deployerOf group32 rule33 rule34 genesisRules group33 rule35 clauseRule isAddress rule40 entryRules group35 resolve rule50 group50 isUnwritten isWrite assignRule callRule statementRules group51 access produces isRow placeOf isAlias rule60 isBurned isEarlier isLater marks isCounted uses judged rowRule linearEntry linear offences passAnswer
-outcome s =
-    let n = refusal s in
-    let t = tree s in
-    let r = resolve t in
-    let a = access t in
-    let l = linear t in
-    record {
-      refused = n;
-      resolve = unlessRefused n (firstOf s r);
-      access = unlessRefused n (firstOf s a);
-      linear = unlessRefused n (firstOf s l);
-      list = pick (eqb n 0) (r ++ (a ++ l)) [];
-    }
+unfolding every image-some count familyOf partAt afterFrom endsFrom fits classOf wordAt less nameAt tilesFrom kidsFrom childrenFit carries nameFits nodeOk endsPast shallow isNamed usedIn layoutOk headerRefusal bodyRefusal refusal
+    keep some first run has same hasWord only below someBelow firstBelow calls someCall isChild arguments someArgument named declares firstNamed down atBottom isIdent isField signers typed isState isStateTyped isDeclaredAsset inner isKnownAsset
+    rule20 group20 rule21 group21 manyAssets rule22 mintCalls group22 comma typeText signature firstSigned rule23 group23 rule24 rule25 rule26 rule27 rule28 rule29 letRules entryNames group24 rule30 lastEvent unlike rule31 emits group30 rule32 deployerIn deployerOf group32 rule33 rule34 genesisRules group33 rule35 clauseRule isAddress rule40 entryRules group35 resolve
+    rule50 group50 isUnwritten isWrite assignRule callRule statementRules group51 access produces isRow placeOf isAlias rule60 isBurned isEarlier isLater marks isCounted uses judged rowRule linearEntry linear offences passAnswer
+outcome s = record {
+  refused = refusal s;
+  resolving = passAnswer resolve s;
+  accessing = passAnswer access s;
+  linearity = passAnswer linear s;
+  list = pick (eqb (refusal s) 0) (offences (tree s)) [];
+}
+
+-- the image s is answered as v says
+pub record Answered (s : List ℕ) (v : Outcome) : Type 0 where
+  pub refused : refusal s ≡ v .refused
+  pub resolving : passAnswer resolve s ≡ v .resolving
+  pub accessing : passAnswer access s ≡ v .accessing
+  pub linearity : passAnswer linear s ≡ v .linearity
+  -- of an admitted image the full list, and what it answers for a buffer of so many words
+  pub list : v .refused ≡ 0 → offences (tree s) ≡ v .list
+  pub room : v .refused ≡ 0 → (size : ℕ) → 3 * length (v .list) ≤ size → listAnswer s size ≡ listed (length (v .list))
+  pub short : v .refused ≡ 0 → (size : ℕ) → size < 3 * length (v .list) → listAnswer s size ≡ listRefused 9
+  -- of a refused one
+  pub unlisted : (v .refused ≡ 0 → ⊥) → (size : ℕ) → listAnswer s size ≡ listRefused (v .refused)
+
+pub answers : {s : List ℕ} {v : Outcome} → outcome s ≡ v → Answered s v
+unfolding outcome listAnswer
+answers {s} {v} e = record {
+  refused = n;
+  resolving = ap (λ (o : Outcome). o .resolving) e;
+  accessing = ap (λ (o : Outcome). o .accessing) e;
+  linearity = ap (λ (o : Outcome). o .linearity) e;
+  list = list;
+  room = λ z size h. lists z size ∙ ap (λ (b : Bool). pick b (listRefused 9) (listed k)) (le-ltb size (3 * k) h);
+  short = λ z size h. lists z size ∙ ap (λ (b : Bool). pick b (listRefused 9) (listed k)) (lt-ltb size (3 * k) h);
+  unlisted = λ z size. ap (λ (m : ℕ). pick (eqb m 0) (given size (offences (tree s))) (listRefused m)) n ∙ ap (λ (b : Bool). pick b (given size (offences (tree s))) (listRefused (v .refused))) (ne-eqb (v .refused) 0 z);
+}
+  where
+    n : refusal s ≡ v .refused
+    n = ap (λ (o : Outcome). o .refused) e
+
+    k : ℕ
+    k = length (v .list)
+
+    -- what the list l answers
+    given : ℕ → List Rec → Listing
+    given size l = pick (ltb size (3 * length l)) (listRefused 9) (listed (length l))
+
+    list : v .refused ≡ 0 → offences (tree s) ≡ v .list
+    list z = ap (λ (m : ℕ). pick (eqb m 0) (offences (tree s)) []) (sym (n ∙ z)) ∙ ap (λ (o : Outcome). o .list) e
+
+    lists : v .refused ≡ 0 → (size : ℕ) → listAnswer s size ≡ given size (v .list)
+    lists z size = ap (λ (m : ℕ). pick (eqb m 0) (given size (offences (tree s))) (listRefused m)) (n ∙ z) ∙ ap (given size) (list z)
 
 -- the answers to the three questions about a name
 pub record Replies : Type 0 where

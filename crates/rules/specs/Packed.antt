@@ -136,8 +136,14 @@ burns = over 18
 abbrev pub limits : Nodes → Nodes
 limits = over 19
 
+abbrev pub denies : Nodes → Nodes
+denies = over 20
+
 abbrev pub after : Nodes → Nodes
 after = over 21
+
+abbrev pub duration : Nodes
+duration = leaf 22 []
 
 abbrev pub name : String → Nodes
 unfolding bytes

@@ -1,0 +1,238 @@
+-- The three demands of specs/Demands hold: put together from what is proved in Answers, Passes, Full and Numbers.
+use Prim.Native.Nat.{ℕ, zero, suc, _*_, _<_, _≤_}
+use mathlib.Core.Path.{_≡_, refl, ap, _∙_, sym, subst}
+use mathlib.Core.Bool.{Bool, true, false, true≢false}
+use mathlib.Core.List.{List, [], _∷_, _++_, List·Memᴰ, List·Memᴰ·tail, List·Memᴰ·head, List·Memᴰ·not-nil, List·Memᴰ·cases-cons}
+use mathlib.Core.Logic.{_⊎_, inl, inr, ⊎-elim, _↔_}
+use native.Mathlib.Omega.{arith}
+use borrow.Author.Tests.{ltb-true, ltb-false, eqb-true, eqb-false, eq-eqb}
+use lib.Dec.{ltb, eqb}
+use lib.ListN.{length}
+use Rattle.image.specs.Pick.{pick}
+use Rattle.image.specs.Admit.{refusal}
+use Rattle.rules.specs.Tree.{Tree, tree}
+use Rattle.rules.specs.Vocabulary.{Rec}
+use Rattle.rules.specs.Model.{StateName, isState, DeclaredAsset, isDeclaredAsset, KnownAsset, isKnownAsset}
+use Rattle.rules.specs.All.{offences, Before, Ordered, key, verdict, FullList}
+use Rattle.rules.specs.Passes.{Pass, resolving, accessing, linearity, ofPass, None, First, Judges}
+use Rattle.rules.specs.Answers.{Answer, imageRefused, accepted, refusedAt, firstOf, passAnswer, Reply, replyRefused, replied, ask, laid, Listing, listed, listAnswer, listBuffer}
+use Rattle.rules.specs.Allowed.{Refused, Admitted, PassAllowed, ReplyAllowed}
+use Rattle.rules.specs.Demands.{EachPass, EachQuestion, Number, TooShort, Demand-1, Demand-2, Demand-3}
+use Rattle.rules.proofs.Reflect.{Tells}
+use Rattle.rules.proofs.Model.{tells-isState, tells-isDeclaredAsset, tells-isKnownAsset}
+use Rattle.rules.proofs.Unique.{never, full-list-unique}
+use Rattle.rules.proofs.Full.{full, only-full}
+use Rattle.rules.proofs.Passes.{judges-resolve, judges-access, judges-linear}
+use Rattle.rules.proofs.Numbers.{equal-numbers}
+use Rattle.rules.proofs.Answers.{decide, refusal-most, pass-admitted, pass-allowed, ask-allowed, list-refused, list-short, list-listed, buffer-refused, buffer-short, buffer-listed}
+
+-- an image that is refused by a number is not admitted
+broken : (s : List ℕ) {r : ℕ} → Number r → refusal s ≡ r → Refused s
+broken s n e z = omega arith
+
+-- A pass
+
+module _ (p : Pass) (codes : 9 ≤ p .least) (j : (s : List ℕ) → Admitted s → Judges (tree s) p) (s : List ℕ) where
+  abbrev a : Answer
+  a = passAnswer (p .part) s
+
+  allowed : PassAllowed p s a
+  allowed = pass-allowed p s (j s)
+
+  decided : Admitted s → None (tree s) p ⊎ ((r : Rec) × First (tree s) p r)
+  decided e = go (eqb (verdict (p .part (tree s)) .code) 0) refl
+    where
+      go : (b : Bool) → eqb (verdict (p .part (tree s)) .code) 0 ≡ b → None (tree s) p ⊎ ((r : Rec) × First (tree s) p r)
+      go true q = inl (j s e .accepts-none .0 (eqb-true _ _ q))
+      go false q = inr (j s e .has-first (eqb-false _ _ q))
+
+  -- a pass that refuses an admitted image does so with one of its codes
+  coded : (e : Admitted s) (r : Rec) → First (tree s) p r → p .least ≤ a .number
+  coded e r f =
+      let n : a .number ≡ r .code = ap (λ (x : Answer). x .number) (allowed .refuses e r f) in
+      let c = f .of .0 in
+      omega arith
+
+  zeros : Refused s → a ≡ imageRefused (refusal s)
+  zeros = allowed .refused
+
+  refuses : Admitted s → (r : Rec) → First (tree s) p r → a ≡ refusedAt s (r .code) (r .place)
+  refuses = allowed .refuses
+
+  pass-number : (r : ℕ) → Number r → (a .number ≡ r) ↔ (refusal s ≡ r)
+  pass-number r n =
+      (λ q. ⊎-elim (λ e. absurd (admitted q e)) (λ x. sym (number-refused x) ∙ q) (decide s), λ q. number-refused (broken s n q) ∙ q)
+    where
+      number-refused : Refused s → a .number ≡ refusal s
+      number-refused x = ap (λ (y : Answer). y .number) (allowed .refused x)
+
+      admitted : a .number ≡ r → Admitted s → ⊥
+      admitted q e =
+          ⊎-elim
+          (λ (x : None (tree s) p). let z : a .number ≡ 0 = ap (λ (y : Answer). y .number) (allowed .accepts e x) in omega arith)
+          (λ (f : (r : Rec) × First (tree s) p r). let z = coded e (f .0) (f .1) in omega arith)
+          (decided e)
+
+  accepts : Admitted s → (a ≡ accepted) ↔ None (tree s) p
+  accepts e = (λ q. ⊎-elim (λ x. x) (λ f. absurd (refused q f)) (decided e), allowed .accepts e)
+    where
+      refused : a ≡ accepted → (r : Rec) × First (tree s) p r → ⊥
+      refused q f = let z = coded e (f .0) (f .1) in let n : a .number ≡ 0 = ap (λ (y : Answer). y .number) q in omega arith
+
+  -- the list's records of the pass are its part
+  part : (e : Admitted s) (l : List Rec) → FullList (tree s) l → ofPass p l ≡ p .part (tree s)
+  part e l f = ap (ofPass p) (only-full s e l f) ∙ j s e .part
+
+  accepts-list : Admitted s → (l : List Rec) → FullList (tree s) l → (a ≡ accepted) ↔ (ofPass p l ≡ [])
+  accepts-list e l f = (
+    λ q. part e l f ∙ sym (j s e .part) ∙ j s e .accepts .0 (j s e .accepts-none .1 (accepts e .0 q)),
+    λ q. pass-admitted (p .part) s e ∙ ap (firstOf s) (sym (part e l f) ∙ q),
+  )
+
+  refuses-list : Admitted s → (l : List Rec) → FullList (tree s) l → (r : Rec) (m : List Rec) → ofPass p l ≡ r ∷ m → a ≡ refusedAt s (r .code) (r .place)
+  refuses-list e l f r m q = pass-admitted (p .part) s e ∙ ap (firstOf s) (sym (part e l f) ∙ q)
+
+-- what holds of a pass whose codes are no refusals and that judges as it should holds of each
+each : {P : Pass → Type 0} → ((p : Pass) → 9 ≤ p .least → ((s : List ℕ) → Admitted s → Judges (tree s) p) → P p) → EachPass P
+each f = (f resolving (omega arith) judges-resolve, f accessing (omega arith) judges-access, f linearity (omega arith) judges-linear)
+
+-- A question
+
+module _ (q : Tree → List ℕ → Bool) (Q : Tree → List ℕ → Type 0) (h : (t : Tree) (w : List ℕ) → Tells (q t w) (Q t w)) (s w : List ℕ) where
+  allowed-reply : ReplyAllowed Q s w (ask q s w)
+  allowed-reply = ask-allowed q Q h s w
+
+  ask-zeros : Refused s → ask q s w ≡ replyRefused (refusal s)
+  ask-zeros = allowed-reply .refused
+
+  ask-admitted : Admitted s → ask q s w ≡ replied (q (tree s) w)
+  unfolding ask
+  ask-admitted e = ap (λ (b : Bool). pick b (replied (q (tree s) w)) (replyRefused (refusal s))) (eq-eqb (refusal s) 0 e)
+
+  -- the bit that it answers
+  bit : Admitted s → (b : Bool) → ask q s w ≡ replied b → q (tree s) w ≡ b
+  bit e b x = sym (ap (λ (y : Reply). y .yes) (ask-admitted e)) ∙ ap (λ (y : Reply). y .yes) x
+
+  ask-number : (r : ℕ) → Number r → (ask q s w .number ≡ r) ↔ (refusal s ≡ r)
+  ask-number r n = (
+    λ x. ⊎-elim
+        (λ e. let z : ask q s w .number ≡ 0 = ap (λ (y : Reply). y .number) (ask-admitted e) in absurd (omega arith))
+        (λ e. sym (ap (λ (y : Reply). y .number) (allowed-reply .refused e)) ∙ x) (decide s),
+    λ x. ap (λ (y : Reply). y .number) (allowed-reply .refused (broken s n x)) ∙ x,
+  )
+
+  ask-yes : Admitted s → (ask q s w ≡ replied true) ↔ Q (tree s) w
+  ask-yes e = (λ x. h (tree s) w .so (bit e true x), allowed-reply .yes e)
+
+  ask-no : Admitted s → (ask q s w ≡ replied false) ↔ (Q (tree s) w → ⊥)
+  ask-no e = (λ x f. true≢false (sym (h (tree s) w .back f) ∙ bit e false x), allowed-reply .no e)
+
+each-question :
+    {P : (Tree → List ℕ → Bool) → (Tree → List ℕ → Type 0) → Type 0}
+    → ((q : Tree → List ℕ → Bool) (Q : Tree → List ℕ → Type 0) → ((t : Tree) (w : List ℕ) → Tells (q t w) (Q t w)) → P q Q)
+    → EachQuestion P
+each-question f = (f isState StateName tells-isState, f isDeclaredAsset DeclaredAsset tells-isDeclaredAsset, f isKnownAsset KnownAsset tells-isKnownAsset)
+
+-- The list
+
+module _ (s : List ℕ) where
+  abbrev count : ℕ
+  count = length (offences (tree s))
+
+  -- every full list has so many records
+  many : Admitted s → (l : List Rec) → FullList (tree s) l → length l ≡ count
+  many e l f = ap length (only-full s e l f)
+
+  module _ (o : List ℕ) where
+    abbrev n : ℕ
+    n = listAnswer s (length o) .number
+
+    -- the cases of its answer
+    data Cases : Type 0 where
+      refused : Refused s → n ≡ refusal s → Cases
+      short : Admitted s → length o < 3 * count → n ≡ 9 → Cases
+      roomy : Admitted s → 3 * count ≤ length o → n ≡ 0 → Cases
+
+    number-is : {x : Listing} → listAnswer s (length o) ≡ x → n ≡ x .number
+    number-is e = ap (λ (y : Listing). y .number) e
+
+    cases : Cases
+    cases = ⊎-elim (λ e. go e (ltb (length o) (3 * count)) refl) (λ x. refused x (number-is (list-refused s (length o) x))) (decide s)
+      where
+        go : Admitted s → (b : Bool) → ltb (length o) (3 * count) ≡ b → Cases
+        go e true q = let l = ltb-true _ _ q in short e l (number-is (list-short s (length o) e l))
+        go e false q = let l = ltb-false _ _ q in roomy e l (number-is (list-listed s (length o) e l))
+
+    list-number : (r : ℕ) → Number r → (n ≡ r) ↔ (refusal s ≡ r)
+    list-number r h = (λ q. so cases q, λ q. number-is (list-refused s (length o) (broken s h q)) ∙ q)
+      where
+        so : Cases → n ≡ r → refusal s ≡ r
+        so (refused x z) q = sym z ∙ q
+        so (short e l z) q = absurd (omega arith)
+        so (roomy e l z) q = absurd (omega arith)
+
+    short-is : TooShort s o → length o < 3 * count
+    short-is x = let z = many (x .0) (x .1 .0) (x .1 .1) in let l = x .1 .2 in omega arith
+
+    list-nine : (n ≡ 9) ↔ TooShort s o
+    list-nine = (λ q. so cases q, λ x. number-is (list-short s (length o) (x .0) (short-is x)))
+      where
+        so : Cases → n ≡ 9 → TooShort s o
+        so (refused x z) q = let m = refusal-most s in absurd (omega arith)
+        so (short e l z) q = (e, (offences (tree s), full s e, l))
+        so (roomy e l z) q = absurd (omega arith)
+
+    listed-is : Admitted s → (l : List Rec) → FullList (tree s) l → 3 * length l ≤ length o → (listAnswer s (length o) ≡ listed (length l)) × (listBuffer s o ≡ laid o 0 l)
+    listed-is e l f h =
+        let z = many e l f in
+        let g : 3 * count ≤ length o = omega arith in
+        (list-listed s (length o) e g ∙ ap listed (sym z), buffer-listed s o e g ∙ ap (laid o 0) (sym (only-full s e l f)))
+
+-- a record stands before the later ones, so not among them, and not among the earlier ones
+once : (k : Rec → List ℕ) (a b : List Rec) (r : Rec) → Ordered k (a ++ (r ∷ b)) → (List·Memᴰ r a → ⊥) × (List·Memᴰ r b → ⊥)
+unfolding Ordered
+once k [] b r h = (λ m. List·Memᴰ·not-nil m, λ m. never (k r) (h .0 r m))
+once k (q ∷ a) b r h =
+    let u = once k a b r (h .1) in
+    (λ m. ⊎-elim (λ e. never (k r) (subst (λ (x : Rec). Before (k x) (k r)) (sym e) (h .0 r (inside a)))) (u .0) (List·Memᴰ·cases-cons m), u .1)
+  where
+    inside : (a : List Rec) → List·Memᴰ r (a ++ (r ∷ b))
+    inside [] = List·Memᴰ·head refl
+    inside (x ∷ a) = List·Memᴰ·tail (inside a)
+
+pub demand-1 : Demand-1
+demand-1 = record {
+  numbers = λ s n. (positive (refusal s) n, refusal-most s);
+  pass = each pass-number;
+  pass-zeros = each zeros;
+  question = each-question ask-number;
+  question-zeros = each-question ask-zeros;
+  list = list-number;
+  list-zeros = λ s o n. (list-refused s (length o) n, buffer-refused s o n);
+  short = list-nine;
+  short-zeros = λ s o x. (list-short s (length o) (x .0) (short-is s o x), buffer-short s o (x .0) (short-is s o x));
+}
+  where
+    positive : (n : ℕ) → (n ≡ 0 → ⊥) → 1 ≤ n
+    positive zero h = absurd (h refl)
+    positive (suc n) h = omega arith
+
+pub demand-2 : Demand-2
+demand-2 = record {
+  accepts = each accepts;
+  refuses = each refuses;
+  decided = each decided;
+  yes = each-question ask-yes;
+  no = each-question ask-no;
+  names = equal-numbers;
+}
+
+pub demand-3 : Demand-3
+demand-3 = record {
+  full = λ s e. (offences (tree s), full s e);
+  only = λ s e. full-list-unique (tree s);
+  once = λ s e a b r f. once (key (tree s)) a b r (f .ordered);
+  lists = λ s o. listed-is s o;
+  accepts = each accepts-list;
+  refuses = each refuses-list;
+}
