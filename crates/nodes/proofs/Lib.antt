@@ -3,6 +3,7 @@ pub mod Parts
 pub mod Fall
 pub mod Ranges
 pub mod Shapes
+pub mod Folding
 pub mod Marking
 pub mod Turns
 pub mod Heads

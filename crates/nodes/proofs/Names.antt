@@ -1,7 +1,7 @@
--- Numbers of names: in range where a node carries one; and a table of marks, name by name.
+-- Numbers of names: in range where a node carries one; and a table, name by name.
 use Prim.Native.Nat.{ℕ, zero, suc, _+_, _*_, _-_, _<_, _≤_}
 use mathlib.Core.Path.{_≡_, refl, ap, _∙_, sym}
-use mathlib.Core.Bool.{Bool, true, false, not}
+use mathlib.Core.Bool.{Bool, true, false}
 use mathlib.Core.List.{List}
 use mathlib.Core.Logic.{_⊎_, ⊎-elim}
 use native.Mathlib.Omega.{arith}
@@ -15,6 +15,7 @@ use Rattle.image.specs.Text.{namesOk, formOf, textOf}
 use Rattle.image.specs.Tree.{treeOk, nodeOk, nameFits, carries}
 use Rattle.image.specs.Admit.{refusal, headerRefusal, bodyRefusal, nodeCount, nameCount, nodesOf, namesOf, textPart}
 use Rattle.image.proofs.Every.{both-left, both-right, every-at}
+pub use Rattle.image.proofs.Every.{both-false}
 use Rattle.image.proofs.Verdict.{pick-zero}
 use Rattle.image.proofs.Marked.{eq-or-ne}
 use Rattle.image.proofs.Given.{given}
@@ -22,6 +23,7 @@ use Rattle.rules.specs.Sweep.{either, same}
 use Rattle.rules.proofs.Reflect.{tells-same}
 use Rattle.rules.proofs.Numbers.{same-numbers}
 use Rattle.nodes.specs.Shown.{word, number}
+use Rattle.nodes.specs.Table.{Table}
 use Rattle.nodes.specs.Marks.{Marks, marking}
 
 body-zero : (s : List ℕ) → refusal s ≡ 0 → bodyRefusal (nodesOf s) (namesOf s) (textPart s) (nodeCount s) (nameCount s) ≡ 0
@@ -74,10 +76,6 @@ same-not v w n = go (same v w) refl
     go true e = absurd (n (tells-same v w .so e))
     go false e = e
 
-pub either-true : (a : Bool) → either a true ≡ true
-either-true true = refl
-either-true false = refl
-
 pub either-false : (a : Bool) → either a false ≡ a
 either-false true = refl
 either-false false = refl
@@ -86,36 +84,42 @@ pub both-true : (a : Bool) → both a true ≡ a
 both-true true = refl
 both-true false = refl
 
-pub both-false : (a : Bool) → both a false ≡ false
-both-false true = refl
-both-false false = refl
-
-pub marks-none : (s : List ℕ) → refusal s ≡ 0 → Marks s (λ w. false) (replicate 1024 false)
-marks-none s e = record { size = length-replicate 1024 false; mark = λ x l h. getD-replicate 1024 (x - 1) false false (let m = given s e .header .names in omega arith) }
-
-pub marks-as : {s : List ℕ} {P Q : List ℕ → Bool} {r : List Bool} → ((w : List ℕ) → P w ≡ Q w) → Marks s P r → Marks s Q r
-marks-as {s} f M = record { size = M .size; mark = λ x l h. M .mark x l h ∙ f (word s x) }
-
--- the mark of name y is set or taken off: so it is for the bytes that it has
-pub marks-set : (on : Bool) (s : List ℕ) (P : List ℕ → Bool) (r : List Bool) (y : ℕ) → refusal s ≡ 0 → 1 ≤ y → y ≤ nameCount s → Marks s P r → Marks s (λ w. marking on (P w) (same (word s y) w)) (set r (y - 1) on)
+-- a test that holds turns the mark, one that fails leaves it
+marking-all : (on a : Bool) → marking on a true ≡ on
 unfolding marking
-marks-set on s P r y e l h M = record { size = length-set r (y - 1) on ∙ M .size; mark = at-name }
+marking-all true true = refl
+marking-all true false = refl
+marking-all false a = both-false a
+
+pub marking-none : (on a : Bool) → marking on a false ≡ a
+unfolding marking
+marking-none true a = either-false a
+marking-none false a = both-true a
+
+-- Tables of any marks
+
+pub marks-none : {A : Type 0} {d : A} (s : List ℕ) → refusal s ≡ 0 → Table d s (λ w. d) (replicate 1024 d)
+marks-none {d = d} s e = record { size = length-replicate 1024 d; mark = λ x l h. getD-replicate 1024 (x - 1) d d (let m = given s e .header .names in omega arith) }
+
+pub marks-as : {A : Type 0} {d : A} {s : List ℕ} {F G : List ℕ → A} {r : List A} → ((w : List ℕ) → F w ≡ G w) → Table d s F r → Table d s G r
+marks-as {s = s} f T = record { size = T .size; mark = λ x l h. T .mark x l h ∙ f (word s x) }
+
+-- the mark of name y is set to u, which is what G makes of it: so it is for the bytes that it has
+pub marks-put : {A : Type 0} {d : A} (G : A → Bool → A) (s : List ℕ) (F : List ℕ → A) (r : List A) (y : ℕ) (u : A) → u ≡ G (F (word s y)) true → ((v : A) → G v false ≡ v)
+    → refusal s ≡ 0 → 1 ≤ y → y ≤ nameCount s → Table d s F r → Table d s (λ w. G (F w) (same (word s y) w)) (set r (y - 1) u)
+marks-put {A} {d} G s F r y u hit miss e l h T = record { size = length-set r (y - 1) u ∙ T .size; mark = at-name }
   where
-    hit : (on b : Bool) → b ≡ true → (a : Bool) → on ≡ marking on a b
-    hit true b q a = sym (ap (either a) q ∙ either-true a)
-    hit false b q a = sym (ap (λ (x : Bool). both a (not x)) q ∙ both-false a)
-
-    miss : (on b : Bool) → b ≡ false → (a : Bool) → a ≡ marking on a b
-    miss true b q a = sym (ap (either a) q ∙ either-false a)
-    miss false b q a = sym (ap (λ (x : Bool). both a (not x)) q ∙ both-true a)
-
-    at-name : (x : ℕ) → 1 ≤ x → x ≤ nameCount s → getD (set r (y - 1) on) (x - 1) false ≡ marking on (P (word s x)) (same (word s y) (word s x))
+    at-name : (x : ℕ) → 1 ≤ x → x ≤ nameCount s → getD (set r (y - 1) u) (x - 1) d ≡ G (F (word s x)) (same (word s y) (word s x))
     at-name x a c =
         let m = given s e .header .names in
-        let z = M .size in
+        let z = T .size in
         ⊎-elim
-        (λ (q : y ≡ x). rw q (getD-set-same r (x - 1) on false (omega arith) ∙ hit on _ (same-is (word s x)) (P (word s x))))
+        (λ (q : y ≡ x). rw (← q) (getD-set-same r (y - 1) u d (omega arith) ∙ hit ∙ sym (ap (G (F (word s y))) (same-is (word s y)))))
         (λ (n : y ≡ x → ⊥).
-        getD-set-other r (y - 1) (x - 1) on false (omega (arith, n)) ∙ M .mark x a c
-        ∙ miss on _ (same-not (word s y) (word s x) (λ q. n (same-numbers s e y x h c q))) (P (word s x)))
+        getD-set-other r (y - 1) (x - 1) u d (omega (arith, n)) ∙ T .mark x a c ∙ sym (miss (F (word s x)))
+        ∙ sym (ap (G (F (word s x))) (same-not (word s y) (word s x) (λ q. n (same-numbers s e y x h c q)))))
         (eq-or-ne y x)
+
+-- of Bools: the mark of name y is set or taken off
+pub marks-set : (on : Bool) (s : List ℕ) (P : List ℕ → Bool) (r : List Bool) (y : ℕ) → refusal s ≡ 0 → 1 ≤ y → y ≤ nameCount s → Marks s P r → Marks s (λ w. marking on (P w) (same (word s y) w)) (set r (y - 1) on)
+marks-set on s P r y = marks-put (marking on) s P r y on (sym (marking-all on (P (word s y)))) (marking-none on)

@@ -1,7 +1,6 @@
 -- Parts of the node area show the tree of the whole: the whole area, a part of a part, and what each node of a part is.
 use Prim.Native.Nat.{ℕ, _+_, _*_, _-_, _<_, _≤_}
 use mathlib.Core.Path.{_≡_, ap, _∙_}
-use mathlib.Core.Bool.{Bool, false}
 use mathlib.Core.List.{List}
 use mathlib.Core.Logic.{_⊎_}
 use native.Mathlib.Omega.{arith}
@@ -15,7 +14,7 @@ use Rattle.image.proofs.Nest.{nests}
 use Rattle.image.proofs.Lent.{lent-kind, lent-end, lent-name, lent-bytes}
 use Rattle.rules.specs.Tree.{tree}
 use Rattle.nodes.specs.Shown.{Shown, View, In, treeOf, number}
-use Rattle.nodes.specs.Marks.{Marks}
+use Rattle.nodes.specs.Table.{Table}
 use Rattle.nodes.proofs.Names.{in-range}
 
 pub whole : (s : List ℕ) → refusal s ≡ 0 → Shown s (nodesOf s) 0 (nodeCount s)
@@ -76,8 +75,8 @@ module _ {part : List ℕ} {b : ℕ} (W : View part b) where
     ranged h = in-range (W .image) (W .shown .admitted) p (let u = inside i in let v = W .shown .high in omega arith) h
 
     -- what a table says of the word of a Name or an Ident
-    pub tells : {P : List ℕ → Bool} {r : List Bool} → Marks (W .image) P r → (treeOf W .kind p ≡ 23) ⊎ (treeOf W .kind p ≡ 35) → getD r (number (W .image) p - 1) false ≡ P (treeOf W .text p)
-    tells {P} M h = let r = ranged h in M .mark _ (r .0) (r .1)
+    pub tells : {A : Type 0} {d : A} {F : List ℕ → A} {r : List A} → Table d (W .image) F r → (treeOf W .kind p ≡ 23) ⊎ (treeOf W .kind p ≡ 35) → getD r (number (W .image) p - 1) d ≡ F (treeOf W .text p)
+    tells T h = let r = ranged h in T .mark _ (r .0) (r .1)
 
 -- the part from a node f of node p's range to p's end holds the whole of each node in it
 pub lent-shown : {part : List ℕ} {b p f : ℕ} (W : View part b) → In part b p → p < f → f ≤ treeOf W .end p → Shown (W .image) (slice part (16 * (f - b)) (16 * (treeOf W .end p - b))) f (treeOf W .end p)

@@ -1,19 +1,16 @@
--- A table of one mark for each of 1,024 names, by name number less one: what it says of the bytes of each name.
-use Prim.Native.Nat.{ℕ, _-_, _≤_}
-use mathlib.Core.Path.{_≡_}
+-- A table of marks by name; marks set, or taken off, by tests.
+use Prim.Native.Nat.{ℕ}
 use mathlib.Core.Bool.{Bool, false, not}
 use mathlib.Core.List.{List}
-use lib.ListN.{length, getD}
-use Rattle.image.specs.Admit.{nameCount}
 use Rattle.image.specs.Pick.{pick, both}
 use Rattle.rules.specs.Sweep.{either}
 use Rattle.records.specs.Words.{Lent, old, new}
 use Rattle.rules.specs.Tree.{Tree}
-use Rattle.nodes.specs.Shown.{View, word, treeOf}
+use Rattle.nodes.specs.Shown.{View, treeOf}
+use Rattle.nodes.specs.Table.{Table, Changed}
 
-pub record Marks (s : List ℕ) (P : List ℕ → Bool) (r : List Bool) : Type 0 where
-  pub size : length r ≡ 1024
-  pub mark : (x : ℕ) → 1 ≤ x → x ≤ nameCount s → getD r (x - 1) false ≡ P (word s x)
+abbrev pub Marks : List ℕ → (List ℕ → Bool) → List Bool → Type 0
+Marks s P r = Table false s P r
 
 -- a mark is set, or taken off, where the second test holds
 unfoldable pub marking : Bool → Bool → Bool → Bool
@@ -21,7 +18,7 @@ marking on a b = pick on (either a b) (both a (not b))
 
 -- a function that is lent a table sets, or takes off, the marks of the words that G names, whichever x the nodes are seen by
 abbrev pub Turned : Bool → {X : Type 0} → (X → List ℕ) → (X → List ℕ → Bool) → List Bool → List Bool → Type 0
-Turned on {X} image G r r′ = (x : X) (P : List ℕ → Bool) → Marks (image x) P r → Marks (image x) (λ w. marking on (P w) (G x w)) r′
+Turned on image G r r′ = Changed false image (λ x w v. marking on v (G x w)) r r′
 
 abbrev pub Turns : Bool → {part : List ℕ} {b : ℕ} → (View part b → List ℕ → Bool) → Lent (List Bool) → Type 0
 Turns on G marks = Turned on (λ W. W .image) G (old marks) (new marks)

@@ -15,11 +15,12 @@ use Rattle.rules.specs.Vocabulary.{Below, someBelow, Named, named, Declares, de
 use Rattle.rules.specs.Vocabulary as vocabulary
 use Rattle.rules.proofs.Reflect.{Tells, one-fact, tells-both, tells-not, tells-ltb, tells-also, tells-has, tells-someBelow, tells-named, tells-declares, first-back}
 use Rattle.rules.specs.All.{parts}
+use Rattle.nodes.specs.Table.{folded}
 use Rattle.nodes.specs.First.{NameFirst}
+use Rattle.nodes.proofs.Names.{marks-as}
 use Rattle.nodes.proofs.Shapes.{allIn}
 use Rattle.places.specs.declared.Note.the-variants.{First, Last, Off}
 use Rattle.places.specs.Places.{Places, noting, notes, notesBelow, isNamed, firstOf, lastOf}
-use Rattle.places.proofs.Noting.{places-as}
 
 -- Numbers
 
@@ -49,7 +50,7 @@ module _ (p : ℕ → Bool) (a : ℕ) where
   found-here n e = record { is = e; low = omega arith; high = omega arith }
 
   first-or : 0 < a → (n : ℕ) → FirstOr p a (a + n) (notes First p 0 a n)
-  unfolding notes
+  unfolding notes folded
   first-or z zero = inl (refl, λ j l h. absurd (omega arith))
   first-or z (suc n) = go (notes First p 0 a n) (p (a + n)) refl (first-or z n)
     where
@@ -60,7 +61,7 @@ module _ (p : ℕ → Bool) (a : ℕ) where
       go v false e (inr h) = inr (found-more n v (h .0), h .1)
 
   last-or : (n : ℕ) → LastOr p a (a + n) (notes Last p 0 a n)
-  unfolding notes
+  unfolding notes folded
   last-or zero = inl (refl, λ j l h. absurd (omega arith))
   last-or (suc n) = go (notes Last p 0 a n) (p (a + n)) refl (last-or n)
     where
@@ -71,7 +72,7 @@ module _ (p : ℕ → Bool) (a : ℕ) where
 
   -- taken off: nothing is noted any more
   off-clears : (v n : ℕ) → (v ≡ 0) ⊎ Found p a (a + n) v → notes Off p v a n ≡ 0
-  unfolding notes
+  unfolding notes folded
   off-clears v zero (inl e) = e
   off-clears v zero (inr F) = let l = F .low in let h = F .high in absurd (omega arith)
   off-clears v (suc n) h = go (notes Off p v a n) (p (a + n)) refl (off-clears v n) h
@@ -179,7 +180,7 @@ first-named t ks a i B = go (eq-or-ne (firstOf t ks a (t .text (i + 1))) 0)
 
 -- the tables after taking off
 pub firsts-off : {s : List ℕ} (ks : List ℕ) (a : ℕ) {r : List ℕ} → Places s (λ w. notesBelow Off (tree s) ks a w (firstOf (tree s) ks a w)) r → Places s (λ w. 0) r
-firsts-off {s} ks a N = places-as (λ w. first-off (tree s) ks a w) N
+firsts-off {s} ks a N = marks-as (λ w. first-off (tree s) ks a w) N
 
 -- Params and Lets begin with their Name, and are parts of an entry
 pub parts-are : (k : ℕ) → (k ≡ 10) ⊎ (k ≡ 25) → NameFirst k × (allIn (k ∷ []) parts ≡ true)

@@ -1,23 +1,20 @@
--- A table of one node for each of 1,024 names, by name number less one: what it notes for the bytes of each name; 0 where it notes none.
-use Prim.Native.Nat.{ℕ, zero, suc, _+_, _-_, _≤_}
-use mathlib.Core.Path.{_≡_}
+-- A table of nodes by name: what it notes for the bytes of each name; 0 where it notes none.
+use Prim.Native.Nat.{ℕ, suc, _-_}
 use mathlib.Core.Bool.{Bool}
 use mathlib.Core.List.{List}
 use lib.Dec.{eqb}
-use lib.ListN.{length, getD}
-use Rattle.image.specs.Admit.{nameCount}
 use Rattle.image.specs.Pick.{pick}
 use Rattle.rules.specs.Sweep.{also, has}
 use Rattle.rules.specs.Tree.{Tree}
 use Rattle.rules.specs.Vocabulary.{named}
 use Rattle.records.specs.Words.{Lent, old, new}
-use Rattle.nodes.specs.Shown.{View, word}
+use Rattle.nodes.specs.Shown.{View}
+use Rattle.nodes.specs.Table.{Table, Changed, folded}
 use Rattle.places.specs.declared.Note.{Note}
 use Rattle.places.specs.declared.Note.the-variants.{First, Last, Off}
 
-pub record Places (s : List ℕ) (F : List ℕ → ℕ) (r : List ℕ) : Type 0 where
-  pub size : length r ≡ 1024
-  pub node : (x : ℕ) → 1 ≤ x → x ≤ nameCount s → getD r (x - 1) 0 ≡ F (word s x)
+abbrev pub Places : List ℕ → (List ℕ → ℕ) → List ℕ → Type 0
+Places s F r = Table 0 s F r
 
 -- what is noted in place of v at node i; the same where a test holds
 abbrev pub taken : Note → ℕ → ℕ → ℕ
@@ -30,8 +27,7 @@ noting note v b i = pick b (taken note v i) v
 
 -- v was noted, and then the nodes from a on that pass the test, n nodes
 unfoldable pub notes : Note → (ℕ → Bool) → ℕ → ℕ → ℕ → ℕ
-notes note p v a zero = v
-notes note p v a (suc n) = noting note (notes note p v a n) (p (a + n)) (a + n)
+notes note p v a n = folded (λ i u. noting note u (p i) i) v a n
 
 -- i is a node of kind ks whose Name is w
 abbrev pub isNamed : Tree → List ℕ → List ℕ → ℕ → Bool
@@ -50,7 +46,7 @@ lastOf t ks a w = notesBelow Last t ks a w 0
 
 -- a function that is lent a table changes what it notes for w from v to G w v, whichever x the nodes are seen by
 abbrev pub Noted : {X : Type 0} → (X → List ℕ) → (X → List ℕ → ℕ → ℕ) → List ℕ → List ℕ → Type 0
-Noted {X} image G r r′ = (x : X) (F : List ℕ → ℕ) → Places (image x) F r → Places (image x) (λ w. G x w (F w)) r′
+Noted image G r r′ = Changed 0 image G r r′
 
 abbrev pub Notes : {part : List ℕ} {b : ℕ} → (View part b → List ℕ → ℕ → ℕ) → Lent (List ℕ) → Type 0
 Notes G places = Noted (λ W. W .image) G (old places) (new places)

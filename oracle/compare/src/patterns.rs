@@ -3,7 +3,7 @@
 
 use crate::judge;
 use crate::mismatch::{Mismatch, same};
-use generate::patterns::{Pattern, p2, patterns};
+use generate::patterns::{Pattern, p2, patterns, reported};
 use generate::{Limit, limits};
 use quanta_typeck::model::Model;
 use reference::{Pass, Record};
@@ -29,6 +29,9 @@ pub fn run() -> Result<String, String> {
     }
     note("P2's bytes", same("length", 172, p2().image().len()));
     note("P2's report", same("text", P2_REPORT, &reference::report(&p2().image())));
+    for (pattern, report) in reported() {
+        note(pattern.name, same("the report", report, &reference::report(&pattern.tree.image())));
+    }
     if failures.is_empty() {
         Ok(format!("{} patterns and {} limits hold\n", patterns.len(), limits.len()))
     } else {

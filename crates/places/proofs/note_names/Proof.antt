@@ -1,7 +1,7 @@
 -- `note_names` meets its contract: a walk over the items and the fields of the contract.
 use native.Mathlib.Omega.{arith}
 use borrow.Author.Needs.{needs}
-use mathlib.Core.Path.{ap}
+use mathlib.Core.Path.{refl, ap}
 use mathlib.Core.Bool.{Bool}
 use mathlib.Core.List.{[], _∷_}
 use Prim.Native.Nat.{_-_, _<_, _≤_}
@@ -12,8 +12,9 @@ use Rattle.nodes.specs.Shown.{View, In, treeOf}
 use Rattle.nodes.proofs.Spans.{Span, span-below}
 use Rattle.nodes.proofs.Shapes.{one-in}
 use Rattle.nodes.proofs.Walks.{declarations-on, declaration-moves, none-of}
+use Rattle.nodes.proofs.Folding.{folding-starts, folding-on}
 use Rattle.places.specs.Places.{isNamed}
-use Rattle.places.proofs.Noting.{Noting, noting-starts, noting-on, noted-below}
+use Rattle.places.proofs.Noting.{Noting, noted-below}
 use Rattle.places.proofs.note_names.Statement.{statement}
 use Rattle.places.proofs.note_names.Tie as tie
 
@@ -25,7 +26,7 @@ abbrev μ-loop : tie.MeasureT-loop
 μ-loop note kind nodes places₀ end p₀ places p = end - p
 
 loop-holds : tie.Need-loop-holds Inv-loop μ-loop
-loop-holds c = let W = c .before .before .pre .1 in let S = span-below W (c .before .before .pre .2) (c .end .ensures W) in (S, noting-starts (S .order))
+loop-holds c = let W = c .before .before .pre .1 in let S = span-below W (c .before .before .pre .2) (c .end .ensures W) in (S, folding-starts (λ v i. refl) (S .order))
 
 -- the next item or field
 here : (c : tie.In-loop Inv-loop μ-loop) → In (c .before .before .before .before .args .nodes .now) 0 (c .before .loop .p)
@@ -47,7 +48,7 @@ loop-again c =
     let i = d .before .loop .inv in
     let P = d .before .before .before .before .pre in (
       i .0,
-      noting-on (i .1) (c .before .note-node .ensures) (moved c .0) (moved c .1)
+      folding-on (i .1) (c .before .note-node .ensures) (moved c .0) (moved c .1)
           (λ W w j a e. ap (λ (x : Bool). also x (named (treeOf W) w) j) (none-of _ declarations (one-in _ declarations (P .0 .1)) (declarations-on W (here d) (i .1 .low) (c .next-declaration .ensures W)) j a e)),
     )
 

@@ -1,7 +1,7 @@
 -- `note_parts` meets its contract: a walk from child to child of the entry.
 use native.Mathlib.Omega.{arith}
 use borrow.Author.Needs.{needs}
-use mathlib.Core.Path.{ap}
+use mathlib.Core.Path.{refl, ap}
 use mathlib.Core.Bool.{Bool}
 use mathlib.Core.List.{[], _∷_}
 use Prim.Native.Nat.{_+_, _-_, _<_, _≤_}
@@ -10,8 +10,9 @@ use Rattle.rules.specs.Vocabulary.{named}
 use Rattle.nodes.specs.Shown.{View, treeOf}
 use Rattle.nodes.proofs.Spans.{Span, span-below, child-on}
 use Rattle.nodes.proofs.Shapes.{skips-parts}
+use Rattle.nodes.proofs.Folding.{folding-starts, folding-on}
 use Rattle.places.specs.Places.{isNamed}
-use Rattle.places.proofs.Noting.{Noting, noting-starts, noting-on, noted-below}
+use Rattle.places.proofs.Noting.{Noting, noted-below}
 use Rattle.places.proofs.Reading.{parts-are}
 use Rattle.places.proofs.note_parts.Statement.{statement}
 use Rattle.places.proofs.note_parts.Tie as tie
@@ -24,7 +25,7 @@ abbrev μ-loop : tie.MeasureT-loop
 μ-loop note kind nodes entry places₀ end p₀ places p = end - p
 
 loop-holds : tie.Need-loop-holds Inv-loop μ-loop
-loop-holds c = let W = c .before .before .pre .1 in let S = span-below W (c .before .before .pre .2) (c .end .ensures W) in (S, noting-starts (S .order))
+loop-holds c = let W = c .before .before .pre .1 in let S = span-below W (c .before .before .pre .2) (c .end .ensures W) in (S, folding-starts (λ v i. refl) (S .order))
 
 note-node-requires : tie.Need-note-node-requires Inv-loop μ-loop
 note-node-requires c κs = (parts-are _ (c .before .before .before .before .before .pre .0) .0, c .before .before .before .before .before .pre .1, search needs)
@@ -44,7 +45,7 @@ loop-again c =
     let i = c .before .before .before .before .loop .inv in
     let P = c .before .before .before .before .before .before .before .pre in (
       i .0,
-      noting-on (i .1) (c .before .note-node .ensures) (moved c .0) (moved c .1)
+      folding-on (i .1) (c .before .note-node .ensures) (moved c .0) (moved c .1)
           (λ W w j a d. ap (λ (x : Bool). also x (named (treeOf W) w) j) (skips-parts _ (parts-are _ (P .0) .1) W (P .2) (P .3) (past c) (let e = c .before .before .before .before .before .end .ensures W in omega arith) (c .end2 .ensures W) j a d)),
     )
 

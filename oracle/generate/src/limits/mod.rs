@@ -22,7 +22,8 @@ fn limit(name: impl Into<String>, refusal: u8, image: Vec<u8>) -> Limit {
 
 /// All of them.
 pub fn limits() -> Vec<Limit> {
-    let groups = [lengths(), header_words(), counts(), names::all(), tree::all(), two_faults()];
+    let groups =
+        [lengths(), header_words(), counts(), names::all(), tree::all(), two_faults(), long_reports()];
     groups.into_iter().flatten().collect()
 }
 
@@ -67,8 +68,32 @@ fn of_names(names: &[String], nodes: usize) -> Node {
 
 /// An image that has every maximum: 2,048 nodes, 1,024 names, 16,384 bytes of text.
 pub fn largest() -> Vec<u8> {
+    largest_tree().image()
+}
+
+fn largest_tree() -> Node {
     let names: Vec<String> = (0..1_024).map(|k| padded("n", k, 16)).collect();
-    of_names(&names, 2_048).image()
+    of_names(&names, 2_048)
+}
+
+fn with_largest_spans(mut tree: Node) -> Vec<u8> {
+    tree.for_each_mut(&mut |n| (n.from, n.to) = (u32::MAX, u32::MAX));
+    tree.image()
+}
+
+/// An entry that reads a local name before its Let 2,039 times. The name is `deployer`, so that each
+/// reading breaks two rules.
+fn many_offences() -> Node {
+    let read = std::iter::repeat_n(ident("deployer"), 2_039).collect();
+    contract("c", vec![entry("e", vec![emit("D", read), local("deployer", int())])])
+}
+
+/// Admitted images whose lists and reports are long.
+fn long_reports() -> Vec<Limit> {
+    vec![
+        limit("every maximum at once, the largest span words", 0, with_largest_spans(largest_tree())),
+        limit("over 4,000 offences, the largest span words", 0, with_largest_spans(many_offences())),
+    ]
 }
 
 fn lengths() -> Vec<Limit> {

@@ -1,16 +1,19 @@
 //! Contracts written by hand with the full list that document 01 gives them, by hand too: P1 to
 //! P14, each half (`page`); W, what the page calls tempting and wrong (`tempting`); S, the readings
 //! that docs/RULES.md settles and that no verdict shows, since a verdict ends at the first offence
-//! (`settled`); M, more than one offence of a rule in one item (`several`).
+//! (`settled`); M, more than one offence of a rule in one item (`several`); F, offences far down a
+//! large image with large span words (`far`).
 //!
 //! A place is named by a mark on its node. A list is written as `25ba 61x`: the code, the mark of
 //! the place, and the mark of the related node where there is one.
 
+mod far;
 mod page;
 mod settled;
 mod several;
 mod tempting;
 
+pub use far::reported;
 pub use page::p2;
 
 use crate::build::*;
@@ -43,7 +46,8 @@ impl Pattern {
 
 /// All of them.
 pub fn patterns() -> Vec<Pattern> {
-    [page::all(), tempting::all(), settled::all(), several::all()].into_iter().flatten().collect()
+    let groups = [page::all(), tempting::all(), settled::all(), several::all(), far::all()];
+    groups.into_iter().flatten().collect()
 }
 
 fn pattern(name: &'static str, items: Vec<Node>, list: &'static str) -> Pattern {
