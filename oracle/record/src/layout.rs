@@ -76,6 +76,9 @@ image the published Rust was run too, and gave the same code and place for each 
 related words and the refusals are the reference's alone, since the Rust stops at its first error
 and knows no image. The same command writes the same bytes again.
 
+`answers.bin` is a link to `crates/replay/stdin`, since `rt` follows no link there: the program
+`replay` reads it on every `rt check` and must find that nothing differs.
+
 Numbers are little-endian. The file is read from front to back:
 
 | what | bytes |
