@@ -3,7 +3,7 @@ use Prim.Native.Nat.{ℕ, _<_}
 use mathlib.Core.Path.{_≡_, refl, _∙_, sym}
 use mathlib.Core.Bool.{false, true≢false}
 use mathlib.Core.List.{List, [], _∷_, List·Memᴰ·eq-of-singleton}
-use mathlib.Core.Logic.{⊎-elim}
+use mathlib.Core.Logic.{inl, ⊎-elim}
 use native.Mathlib.Omega.{arith}
 use Rattle.rules.specs.Sweep.{same, has}
 use Rattle.rules.specs.Tree.{type}
@@ -45,4 +45,4 @@ module _ {part : List ℕ} (W : View part 0) (root : In part 0 0) where
     none-known n = not-so _ (λ e. ⊎-elim (undeclared (omega arith, refl)) (⊎-elim (λ d. true≢false (sym (tells-same w QTOV .back d) ∙ n)) inside) (tells-isKnownAsset (treeOf W) w .so e))
       where
         inside : ((y : ℕ) × Below (treeOf W) type 0 y × Inner (treeOf W) w y) → ⊥
-        inside (y, B, I) = unsaid (argument-name W (below-in B) (I .has-argument) (I .is-type)) W w N (omega arith) (I .is-named)
+        inside (y, B, I) = unsaid (let n = argument-name W (below-in B) (I .has-argument) (I .is-type) in record { view = W; here = n .0; carries = inl (n .1) }) W w N (omega arith) (I .is-named)

@@ -1,14 +1,15 @@
 -- The nodes of an image in which `Q_Asset` has the number `asset`, and the names inside its types ("Known assets" of document 01, "Model").
-use Prim.Native.Nat.{ℕ}
-use mathlib.Core.Bool.{Bool, true}
+use Prim.Native.Nat.{ℕ, _<_}
+use mathlib.Core.Path.{_≡_}
+use mathlib.Core.Bool.{Bool, true, false}
 use mathlib.Core.List.{List}
-use Rattle.rules.specs.Sweep.{also, has}
+use Rattle.rules.specs.Sweep.{also, has, same}
 use Rattle.rules.specs.Tree.{type}
 use Rattle.rules.specs.Vocabulary.{someBelow}
 use Rattle.rules.specs.Words.{Q-Asset}
 use Rattle.rules.specs.Model.{inner}
 use Rattle.records.specs.Words.{Lent, old, new}
-use Rattle.nodes.specs.Shown.{View, treeOf}
+use Rattle.nodes.specs.Shown.{View, In, treeOf}
 use Rattle.nodes.specs.Marks.{Turned}
 use Rattle.names.specs.Found.{Numbered}
 
@@ -16,10 +17,19 @@ pub record Assets (nodes : List ℕ) (asset : ℕ) : Type 0 where
   pub view : View nodes 0
   pub numbered : Numbered (view .image) Q-Asset asset
 
--- w is the name inside node y, a Type named `Q_Asset`; it is inside one of the contract's types
+-- w is the name inside node y, a Type named `Q_Asset`
 abbrev pub insideAt : {nodes : List ℕ} {asset : ℕ} → ℕ → Assets nodes asset → List ℕ → Bool
 insideAt y A w = also (has (treeOf (A .view) .kind y) type) (inner (treeOf (A .view)) w) y
 
+-- the Name r is the one inside node y; r is 0 where no name is
+pub record Inside {nodes : List ℕ} {asset : ℕ} (A : Assets nodes asset) (y r : ℕ) : Type 0 where
+  pub under : r < 2048
+  pub none : r ≡ 0 → (w : List ℕ) → insideAt y A w ≡ false
+  pub here : 0 < r → In nodes 0 r
+  pub name : 0 < r → treeOf (A .view) .kind r ≡ 23
+  pub is : 0 < r → (w : List ℕ) → insideAt y A w ≡ same (treeOf (A .view) .text r) w
+
+-- it is inside one of the contract's types
 abbrev pub inside : {nodes : List ℕ} {asset : ℕ} → Assets nodes asset → List ℕ → Bool
 inside A w = someBelow (treeOf (A .view)) type 0 (inner (treeOf (A .view)) w)
 

@@ -17,7 +17,7 @@ ghost use Rattle.nodes.specs.Shown.{View, In, Admitted, treeOf};
 ghost use Rattle.nodes.specs.Marks.{Marks, Turns, Makes};
 ghost use Rattle.nodes.specs.First.{NameFirst, Declaring};
 ghost use Rattle.names.specs.Found.{Numbered};
-ghost use Rattle.model.specs.Assets.{Assets, Gains, insideAt, inside};
+ghost use Rattle.model.specs.Assets.{Assets, Inside, Gains, insideAt, inside};
 
 // A node of this kind: the mark of its Name.
 fn mark_name(kind: usize, nodes: &[u8], p: usize, marks: &mut Marks)
@@ -58,24 +58,35 @@ pub fn mark_declared(nodes: &[u8], declared: &mut Marks)
     mark_names(ASSET, nodes, declared);
 }
 
-// A Type named `Q_Asset`, which has the number `asset`: the mark of its first argument's name, if that is a type.
+// The Name inside a Type named `Q_Asset`, which has the number `asset`: that of its first argument, if that is a type; 0 of any other node.
+pub fn inner_of(nodes: &[u8], y: usize, asset: usize) -> usize
+    requires { ⌜ Assets (now nodes) asset × In (now nodes) 0 y ⌝ }
+    ensures { λ r. ⌜ ((A : Assets (old nodes) asset) → Inside A y r) ⌝ }
+{
+    if nodes::kind(nodes, 0, y) != TYPE {
+        return 0;
+    }
+    if !names::is_word(asset, nodes, 0, y + 1) {
+        return 0;
+    }
+    if nodes::end(nodes, 0, y) <= y + 2 {
+        return 0;
+    }
+    if nodes::kind(nodes, 0, y + 2) != TYPE {
+        return 0;
+    }
+    y + 3
+}
+
+// The mark of the name inside node y, if it has one.
 fn mark_inner(nodes: &[u8], y: usize, asset: usize, known: &mut Marks)
     requires { ⌜ Assets (now nodes) asset × In (now nodes) 0 y ⌝ }
     ensures { λ _. ⌜ Gains (λ (A : Assets (old nodes) asset). insideAt y A) known ⌝ }
 {
-    if nodes::kind(nodes, 0, y) != TYPE {
-        return;
+    let name = inner_of(nodes, y, asset);
+    if 0 < name {
+        nodes::mark(known, nodes, 0, name, true);
     }
-    if !names::is_word(asset, nodes, 0, y + 1) {
-        return;
-    }
-    if nodes::end(nodes, 0, y) <= y + 2 {
-        return;
-    }
-    if nodes::kind(nodes, 0, y + 2) != TYPE {
-        return;
-    }
-    nodes::mark(known, nodes, 0, y + 3, true);
 }
 
 // The marks of the names that a `Q_Asset` has inside, at any level, by a walk over the types of the contract.

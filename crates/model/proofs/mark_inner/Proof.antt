@@ -1,51 +1,23 @@
--- `mark_inner` meets its contract: each test that fails rules out that a name is inside; once all are passed, it is the argument's.
+-- `mark_inner` meets its contract: the mark of the name inside, where there is one.
 use borrow.Author.Needs.{needs}
 use native.Mathlib.Omega.{arith}
-use Prim.Native.Nat.{_+_, _<_}
-use mathlib.Core.Path.{_≡_, refl, sym, _∙_}
-use mathlib.Core.Bool.{true≢false}
-use Rattle.rules.specs.Words.{Q-Asset}
-use Rattle.rules.proofs.Reflect.{tells-same}
-use Rattle.nodes.specs.Shown.{View, treeOf}
-use Rattle.nodes.proofs.Fall.{not-false, not-true}
-use Rattle.nodes.proofs.Shapes.{within}
-use Rattle.model.proofs.Inner.{type-name, argument-name, none-inside, one-inside}
+use mathlib.Core.Path.{ap, _∙_, sym}
+use mathlib.Core.Bool.{true}
+use mathlib.Core.Logic.{inl}
+use Rattle.nodes.specs.Marks.{marking}
+use Rattle.nodes.proofs.Names.{marks-as}
+use Rattle.nodes.proofs.Marking.{marking-none}
 use Rattle.model.proofs.mark_inner.Statement.{statement}
 use Rattle.model.proofs.mark_inner.Tie as tie
 
-is-type : (c : tie.Else1) (W : View (c .before .before .before .args .nodes .now) 0) → treeOf W .kind (c .before .before .before .args .y) ≡ 11
-is-type c W = sym (c .before .kind .ensures W) ∙ c .if1 .left
+mark-requires : tie.Need-mark-requires
+mark-requires c κs = let A = c .before .before .before .before .pre .0 in let I = c .before .before .inner-of .ensures A in record { view = A .view; here = I .here (c .before .if1 .taken); carries = inl (I .name (c .before .if1 .taken)) }
 
-more : (c : tie.Else3) (W : View (c .before .before .before .before .before .before .before .args .nodes .now) 0) → c .before .before .before .before .before .before .before .args .y + 2 < treeOf W .end (c .before .before .before .before .before .before .before .args .y)
-more c W = let e = c .before .end .ensures W in let h = c .if3 .left in omega arith
+returns : tie.Need-returns
+returns c = λ A P M. marks-as (λ w. ap (marking true (P w)) (sym (c .before .before .before .inner-of .ensures A .is (c .before .before .if1 .taken) w))) (c .mark .ensures (A .view) P M)
 
 returns-2 : tie.Need-returns-2
-returns-2 c = λ A P M. none-inside (treeOf (A .view)) (c .before .before .before .before .before .args .y) P (λ w k I. true≢false (sym (tells-same _ Q-Asset .back (I .is-asset)) ∙ sym (c .before .is-word .ensures (A .view) _ (A .numbered)) ∙ not-true _ (c .if2 .taken))) M
-
-returns-3 : tie.Need-returns-3
-returns-3 c = λ A P M. none-inside (treeOf (A .view)) (c .before .before .before .before .before .before .before .args .y) P (λ w k I. let e = c .before .end .ensures (A .view) in let l = c .if3 .taken in let h = I .has-argument in omega arith) M
-
-mark-requires : tie.Need-mark-requires
-mark-requires c κs = let W = c .before .before .before .before .before .before .before .before .before .before .pre .0 .view in argument-name W (c .before .before .before .before .before .before .before .before .before .before .pre .1) (more (c .before .before .before) W) (sym (c .before .before .kind2 .ensures W) ∙ c .before .if4 .left)
-
-returns-5 : tie.Need-returns-5
-returns-5 c = λ A P M.
-    one-inside (treeOf (A .view)) (c .before .before .before .before .before .before .before .before .before .before .before .args .y) P (is-type (c .before .before .before .before .before .before .before .before) (A .view))
-    (record {
-      is-asset = tells-same _ Q-Asset .so (sym (c .before .before .before .before .before .before .before .is-word .ensures (A .view) _ (A .numbered)) ∙ not-false _ (c .before .before .before .before .before .before .if2 .left));
-      has-argument = more (c .before .before .before .before) (A .view);
-      is-type = sym (c .before .before .before .kind2 .ensures (A .view)) ∙ c .before .before .if4 .left;
-      is-named = refl;
-    })
-    (c .mark .ensures (A .view) P M)
+returns-2 c = λ A P M. marks-as (λ w. sym (ap (marking true (P w)) (c .before .inner-of .ensures A .none (let l = c .if1 .left in omega arith) w) ∙ marking-none true (P w))) M
 
 pub mark-inner-spec : {M : Type 1} → statement M
-mark-inner-spec =
-    tie.close
-    (tie.spec
-    (λ c κs. search needs) (λ c. λ A P M. none-inside (treeOf (A .view)) (c .before .before .before .args .y) P (λ w k I. c .if1 .taken (c .before .kind .ensures (A .view) ∙ k)) M)
-    (λ c. search needs) (λ c κs. let W = c .before .before .before .pre .0 .view in type-name W (c .before .before .before .pre .1) (is-type c W)) returns-2 (λ c κs. search needs)
-    (λ c. search needs) returns-3 (λ c. search needs)
-    (λ c κs. let W = c .before .before .before .before .before .before .before .pre .0 .view in within W (c .before .before .before .before .before .before .before .pre .1) (omega arith) (more c W))
-    (λ c. λ A P M. none-inside (treeOf (A .view)) (c .before .before .before .before .before .before .before .before .before .args .y) P (λ w k I. c .if4 .taken (c .before .kind2 .ensures (A .view) ∙ I .is-type)) M)
-    (λ c. search needs) mark-requires returns-5)
+mark-inner-spec = tie.close (tie.spec (λ c κs. search needs) mark-requires returns returns-2)
