@@ -1,25 +1,21 @@
 -- The known assets, put together from three tests; and a mark read by the number of a word.
 use Prim.Native.Nat.{ℕ, _-_, _≤_}
-use mathlib.Core.Path.{_≡_, ap, _∙_, sym, subst}
+use mathlib.Core.Path.{_≡_, ap, _∙_, sym}
 use mathlib.Core.Bool.{Bool, true, false}
 use mathlib.Core.List.{List}
-use mathlib.Core.Logic.{inl, inr}
 use lib.ListN.{getD}
 use Rattle.rules.specs.Sweep.{either, same}
 use Rattle.rules.specs.Tree.{tree, type}
 use Rattle.rules.specs.Words.{QTOV}
 use Rattle.rules.specs.Vocabulary.{someBelow}
 use Rattle.rules.specs.Model.{inner, isDeclaredAsset, isKnownAsset}
-use Rattle.rules.proofs.Reflect.{tells-same}
-use Rattle.rules.proofs.Model.{tells-isKnownAsset}
 use Rattle.nodes.specs.Marks.{Marks, marking}
 use Rattle.nodes.proofs.Names.{marks-as}
 use Rattle.nodes.proofs.Marking.{marking-none}
 use Rattle.names.specs.Found.{Numbered}
+use Rattle.model.specs.declared.Question.{Question}
+use Rattle.model.specs.Questions.{questionOf}
 use Rattle.names.proofs.Words.{either-assoc}
-
-pub native-known : (s w : List ℕ) → same w QTOV ≡ true → true ≡ isKnownAsset (tree s) w
-native-known s w e = sym (tells-isKnownAsset (tree s) w .back (inr (inl (tells-same w QTOV .so e))))
 
 -- the known assets: those declared, `QTOV`, and those inside
 pub known-of : {s : List ℕ} {r : List Bool} → Marks s (λ w. marking true (either (isDeclaredAsset (tree s) w) (same w QTOV)) (someBelow (tree s) type 0 (inner (tree s) w))) r → Marks s (isKnownAsset (tree s)) r
@@ -34,5 +30,6 @@ module _ {s w : List ℕ} {x : ℕ} (N : Numbered s w x) (P : List ℕ → Bool)
   pub marked-so : {r : List Bool} → 1 ≤ x → Marks s P r → getD r (x - 1) false ≡ P w
   marked-so l M = M .mark x l (N .high) ∙ ap P (N .is l)
 
-  pub unmarked : x ≡ 0 → (Numbered s w 0 → P w ≡ false) → false ≡ P w
-  unmarked e f = sym (f (subst (Numbered s w) e N))
+-- the marks of one question's table are those of another question, once the two are known to be the same
+pub marks-of : {p q : Question} {s : List ℕ} {r : List Bool} → p ≡ q → Marks s (questionOf q (tree s)) r → Marks s (questionOf p (tree s)) r
+marks-of {s = s} {r = r} e M = rw e M

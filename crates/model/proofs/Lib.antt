@@ -1,4 +1,3 @@
-pub mod Walking
 pub mod Inner
 pub mod Lacking
 pub mod Known

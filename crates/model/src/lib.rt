@@ -5,28 +5,23 @@ use nodes::FIELD_DECL;
 use nodes::Marks;
 use nodes::TYPE;
 ghost use mathlib.Core.Path.{_≡_};
-ghost use mathlib.Core.Bool.{Bool, true, false};
-ghost use mathlib.Core.List.{List, [], _∷_};
-ghost use Prim.Native.Nat.{ℕ};
-ghost use Rattle.rules.specs.Sweep.{also, has};
+ghost use mathlib.Core.Bool.{true, false};
+ghost use mathlib.Core.List.{[], _∷_};
 ghost use Rattle.rules.specs.Tree.{tree};
-ghost use Rattle.rules.specs.Vocabulary.{named, declares};
+ghost use Rattle.rules.specs.Vocabulary.{declares};
 ghost use Rattle.rules.specs.Model.{isState, isDeclaredAsset, isKnownAsset};
 ghost use Rattle.records.specs.Words.{old, new};
 ghost use Rattle.nodes.specs.Shown.{View, In, Admitted, treeOf};
 ghost use Rattle.nodes.specs.Marks.{Marks, Turns, Makes};
-ghost use Rattle.nodes.specs.First.{NameFirst, Declaring};
-ghost use Rattle.names.specs.Found.{Numbered};
+ghost use Rattle.nodes.specs.First.{Declaring};
+ghost use Rattle.model.specs.Questions.{questionOf, ofNoName};
 ghost use Rattle.model.specs.Assets.{Assets, Inside, Gains, insideAt, inside};
 
-// A node of this kind: the mark of its Name.
-fn mark_name(kind: usize, nodes: &[u8], p: usize, marks: &mut Marks)
-    requires { ⌜ NameFirst kind × View (now nodes) 0 × In (now nodes) 0 p ⌝ }
-    ensures { λ _. ⌜ Turns true (λ (W : View (old nodes) 0) w. also (has (treeOf W .kind p) (kind ∷ [])) (named (treeOf W) w) p) marks ⌝ }
-{
-    if nodes::kind(nodes, 0, p) == kind {
-        nodes::mark(marks, nodes, 0, p + 1, true);
-    }
+// The questions about a name.
+pub enum Question {
+    State,
+    Declared,
+    Known,
 }
 
 // The marks of the Names of the items or fields of this kind, by a walk over the items and fields of the contract.
@@ -37,7 +32,7 @@ fn mark_names(kind: usize, nodes: &[u8], marks: &mut Marks)
     let end = nodes::end(nodes, 0, 0);
     let mut p = 1;
     while p < end {
-        mark_name(kind, nodes, p, marks);
+        nodes::mark_name(kind, nodes, p, true, marks);
         p = nodes::next_declaration(nodes, 0, p);
     }
 }
@@ -116,47 +111,39 @@ pub fn mark_known(image: &[u8], head: Image, known: &mut Marks)
     }
 }
 
-// Whether a word is a name of the image that is marked.
-fn is_marked(image: &[u8], head: Image, word: &[u8], marks: &Marks) -> bool
+// The marks of the names of which the answer to a question is yes.
+fn mark_yes(question: Question, image: &[u8], head: Image, marks: &mut Marks)
     requires { ⌜ Admitted (now image) head ⌝ }
-    ensures { λ r. ⌜ ((P : List ℕ → Bool) → Marks (old image) P (old marks) → (Numbered (old image) (old word) 0 → P (old word) ≡ false) → r ≡ P (old word)) ⌝ }
+    ensures { λ _. ⌜ (Marks (old image) (λ w. false) (old marks) → Marks (old image) (questionOf question (tree (old image))) (new marks)) ⌝ }
+{
+    match question {
+        Question::State => mark_state(nodes::area(image, head), marks),
+        Question::Declared => mark_declared(nodes::area(image, head), marks),
+        Question::Known => mark_known(image, head, marks),
+    }
+}
+
+// The answer for bytes that are no name of the image: `QTOV` is known all the same.
+fn of_no_name(question: Question, word: &[u8]) -> bool
+    ensures { λ r. ⌜ r ≡ ofNoName question (old word) ⌝ }
+{
+    match question {
+        Question::State => false,
+        Question::Declared => false,
+        Question::Known => names::equal(word, b"QTOV"),
+    }
+}
+
+// Whether the answer to a question about a word is yes: its mark, if it is a name of the image.
+pub fn holds(question: Question, image: &[u8], head: Image, word: &[u8]) -> bool
+    requires { ⌜ Admitted (now image) head ⌝ }
+    ensures { λ r. ⌜ r ≡ questionOf question (tree (old image)) (old word) ⌝ }
 {
     let x = names::number_of(image, head, word);
     if x == 0 {
-        return false;
+        return of_no_name(question, word);
     }
+    let mut marks = [false; 1024];
+    mark_yes(question, image, head, &mut marks);
     marks[x - 1]
-}
-
-// Whether a word is a state name.
-pub fn is_state(image: &[u8], head: Image, word: &[u8]) -> bool
-    requires { ⌜ Admitted (now image) head ⌝ }
-    ensures { λ r. ⌜ r ≡ isState (tree (old image)) (old word) ⌝ }
-{
-    let mut state = [false; 1024];
-    mark_state(nodes::area(image, head), &mut state);
-    is_marked(image, head, word, &state)
-}
-
-// Whether a word is a declared asset.
-pub fn is_declared_asset(image: &[u8], head: Image, word: &[u8]) -> bool
-    requires { ⌜ Admitted (now image) head ⌝ }
-    ensures { λ r. ⌜ r ≡ isDeclaredAsset (tree (old image)) (old word) ⌝ }
-{
-    let mut declared = [false; 1024];
-    mark_declared(nodes::area(image, head), &mut declared);
-    is_marked(image, head, word, &declared)
-}
-
-// Whether a word is a known asset: `QTOV` is one even where it is no name of the image.
-pub fn is_known_asset(image: &[u8], head: Image, word: &[u8]) -> bool
-    requires { ⌜ Admitted (now image) head ⌝ }
-    ensures { λ r. ⌜ r ≡ isKnownAsset (tree (old image)) (old word) ⌝ }
-{
-    if names::equal(word, b"QTOV") {
-        return true;
-    }
-    let mut known = [false; 1024];
-    mark_known(image, head, &mut known);
-    is_marked(image, head, word, &known)
 }

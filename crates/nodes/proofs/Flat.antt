@@ -37,7 +37,7 @@ unfolding allIn has
 no-statement k e = not-in parts k statement refl e
 
 -- the kinds of statements are 24 to 28
-out-of : (k : ℕ) → ((j : ℕ) → 24 ≤ j → j ≤ 28 → k ≡ j → ⊥) → has k statement ≡ false
+pub out-of : (k : ℕ) → ((j : ℕ) → 24 ≤ j → j ≤ 28 → k ≡ j → ⊥) → has k statement ≡ false
 unfolding has
 out-of k f =
     simp (

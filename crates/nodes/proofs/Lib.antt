@@ -12,4 +12,6 @@ pub mod Spans
 pub mod Flat
 pub mod Children
 pub mod Walks
+pub mod Walking
+pub mod Naming
 pub mod Steps

@@ -10,7 +10,7 @@ use lib.ListN.{length}
 use Rattle.image.specs.Admit.{nodesOf}
 use Rattle.image.proofs.Row.{Kids, kids-next}
 use Rattle.rules.specs.Sweep.{run, keep, has}
-use Rattle.rules.specs.All.{parts}
+use Rattle.rules.specs.All.{items, parts}
 use Rattle.rules.specs.Tree.{statement}
 use Rattle.rules.specs.Vocabulary.{Rec, below}
 use Rattle.rules.proofs.Admitted.{no-part-below}
@@ -21,7 +21,7 @@ use Rattle.nodes.specs.First.{Starts}
 use Rattle.nodes.specs.Statements.{Statements}
 use Rattle.nodes.proofs.Parts.{inside}
 use Rattle.nodes.proofs.Spans.{Span, span-below, span-whole, upto-is, child-on}
-use Rattle.nodes.proofs.Shapes.{allIn, not-in}
+use Rattle.nodes.proofs.Shapes.{allIn, not-in, within, skips-items, skips-parts}
 use Rattle.nodes.proofs.Flat.{statement-in, statements-are}
 
 -- the statements of an item of the contract, from the first one on
@@ -104,6 +104,16 @@ module _ (a : ℕ) {X : Type 0} {nodes : List ℕ} {b : ℕ} {view : X → View 
 
   pub below-done : {o : List ℕ} {k p : ℕ} → Walk view ks f (a + 1) to most o₀ k₀ o k p → to ≤ p → ((W : View nodes b) → to ≡ treeOf W .end a) → Added (λ x. below (treeOf (view x)) ks a (f x)) (most * 2048) o₀ k₀ o k
   below-done w h e = walk-all w h (λ x. run-below (treeOf (view x)) ks (f x) a (a + 1) to refl (e (view x)))
+
+  -- on to the next child of an item: no part of it is left out
+  pub parts-on : {o o′ : List ℕ} {k k′ p q : ℕ} → allIn ks parts ≡ true → X → In nodes b a → 0 < a → ((W : View nodes b) → to ≡ treeOf W .end a) → Walk view ks f (a + 1) to most o₀ k₀ o k p → p < to → ((W : View nodes b) → q ≡ treeOf W .end p)
+      → Added (λ x. at-kind view ks f x p) most o k o′ k′ → Walk view ks f (a + 1) to most o₀ k₀ o′ k′ q
+  parts-on al x i z e w h d n = walk-on w n (below-moves x i e w h d) (λ y. let l = w .sweep .low in let u = e (view y) in skips-parts ks al (view y) i z (omega arith) (omega arith) (d (view y)))
+
+-- on to the next item of the contract: none is left out
+pub items-on : {X : Type 0} {nodes : List ℕ} {b : ℕ} {view : X → View nodes b} {ks : List ℕ} {f : X → ℕ → List Rec} {to most : ℕ} {o₀ o o′ : List ℕ} {k₀ k k′ p q : ℕ} → allIn ks items ≡ true → X → In nodes b 0 → ((W : View nodes b) → to ≡ treeOf W .end 0)
+    → Walk view ks f 1 to most o₀ k₀ o k p → p < to → ((W : View nodes b) → q ≡ treeOf W .end p) → Added (λ x. at-kind view ks f x p) most o k o′ k′ → Walk view ks f 1 to most o₀ k₀ o′ k′ q
+items-on {view = view} {ks = ks} al x i e w h d n = walk-on w n (below-moves 0 x i e w h d) (λ y. let l = w .sweep .low in let u = e (view y) in skips-items ks al (view y) (within (view y) i l (omega arith)) l (d (view y)))
 
 -- A loop over the statements of a lent part.
 module _ {X : Type 0} {nodes : List ℕ} {base : ℕ} (body : X → Statements nodes base) (ks : List ℕ) (f : X → ℕ → List Rec) where

@@ -5,6 +5,7 @@ use mathlib.Core.Bool.{true, false}
 use mathlib.Core.List.{List, [], _∷_}
 use Rattle.rules.specs.Sweep.{has}
 use Rattle.rules.specs.Tree.{declarations, statement}
+use Rattle.rules.specs.All.{parts}
 use Rattle.nodes.specs.Shown.{View, In, treeOf}
 
 -- Asset, FieldDecl, Event, Entry, Param, Type, Conserves, Mints, Burns, Let, Emit
@@ -17,6 +18,10 @@ NameFirst k = (k < 46) × (has k nameFirst ≡ true)
 -- an item or a field that begins with its Name: Asset, FieldDecl, Event, Entry
 abbrev pub Declaring : ℕ → Type 0
 Declaring k = NameFirst k × (has k declarations ≡ true)
+
+-- a part of an entry that begins with its Name: Param, Conserves, Mints, Burns, Let, Emit
+abbrev pub NamedPart : ℕ → Type 0
+NamedPart k = NameFirst k × (has k parts ≡ true)
 
 -- r is in the range of node p, or its end, and no statement stands before it
 pub record Starts {part : List ℕ} {b : ℕ} (W : View part b) (p r : ℕ) : Type 0 where

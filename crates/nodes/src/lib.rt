@@ -2,17 +2,17 @@
 use image::Image;
 ghost use mathlib.Core.Path.{_≡_};
 ghost use mathlib.Core.Bool.{Bool};
-ghost use mathlib.Core.List.{List};
+ghost use mathlib.Core.List.{List, [], _∷_};
 ghost use Prim.Native.Nat.{ℕ, _+_, _-_, _<_, _≤_};
 ghost use Rattle.image.specs.Admit.{nodeCount};
-ghost use Rattle.rules.specs.Sweep.{has, same, hasWord};
-ghost use Rattle.rules.specs.Tree.{state, type-holders, bodied, statement};
-ghost use Rattle.rules.specs.Vocabulary.{down, isIdent, isField};
+ghost use Rattle.rules.specs.Sweep.{also, has, same, hasWord};
+ghost use Rattle.rules.specs.Tree.{peels, state, type-holders, bodied, statement};
+ghost use Rattle.rules.specs.Vocabulary.{someBelow, named, down, isIdent, isField};
 ghost use Rattle.records.specs.Words.{old, new};
 ghost use Rattle.nodes.specs.Shown.{View, In, Shown, Worded, Admitted, treeOf, number};
 ghost use Rattle.nodes.specs.Marks.{Marks, Turns};
 ghost use Rattle.nodes.specs.Past.{takenOff};
-ghost use Rattle.nodes.specs.First.{Starts, Body};
+ghost use Rattle.nodes.specs.First.{NameFirst, NamedPart, Starts, Body};
 ghost use Rattle.nodes.specs.Walk.{onward};
 
 // One mark for each of 1,024 names, by name number less one.
@@ -118,6 +118,29 @@ pub fn mark(marks: &mut Marks, nodes: &[u8], base: usize, p: usize, on: bool)
     marks[x - 1] = on;
 }
 
+// The mark of the Name of a node of this kind is set, or taken off.
+pub fn mark_name(sort: usize, nodes: &[u8], p: usize, on: bool, marks: &mut Marks)
+    requires { ⌜ NameFirst sort × View (now nodes) 0 × In (now nodes) 0 p ⌝ }
+    ensures { λ _. ⌜ Turns on (λ (W : View (old nodes) 0) w. also (has (treeOf W .kind p) (sort ∷ [])) (named (treeOf W) w) p) marks ⌝ }
+{
+    if kind(nodes, 0, p) == sort {
+        mark(marks, nodes, 0, p + 1, on);
+    }
+}
+
+// The marks of the Names of the parts of an entry of this kind are set, or taken off, by a walk over its children.
+pub fn mark_parts(sort: usize, nodes: &[u8], entry: usize, on: bool, marks: &mut Marks)
+    requires { ⌜ NamedPart sort × View (now nodes) 0 × In (now nodes) 0 entry × (0 < entry) ⌝ }
+    ensures { λ _. ⌜ Turns on (λ (W : View (old nodes) 0) w. someBelow (treeOf W) (sort ∷ []) entry (named (treeOf W) w)) marks ⌝ }
+{
+    let to = end(nodes, 0, entry);
+    let mut p = entry + 1;
+    while p < to {
+        mark_name(sort, nodes, p, on, marks);
+        p = end(nodes, 0, p);
+    }
+}
+
 // What is taken off on the way down an expression: Checked and Wrapping, Fields, or all three.
 pub enum Past {
     Peels,
@@ -125,25 +148,29 @@ pub enum Past {
     Both,
 }
 
+// Checked and Wrapping.
+fn is_peel(k: usize) -> bool
+    ensures { λ r. ⌜ r ≡ has k peels ⌝ }
+{
+    match k {
+        44 => true,
+        45 => true,
+        _ => false,
+    }
+}
+
 fn is_past(past: Past, k: usize) -> bool
     ensures { λ r. ⌜ r ≡ has k (takenOff past) ⌝ }
 {
     match past {
-        Past::Peels => match k {
-            44 => true,
-            45 => true,
-            _ => false,
-        },
-        Past::Fields => match k {
-            42 => true,
-            _ => false,
-        },
-        Past::Both => match k {
-            42 => true,
-            44 => true,
-            45 => true,
-            _ => false,
-        },
+        Past::Peels => is_peel(k),
+        Past::Fields => k == FIELD,
+        Past::Both => {
+            if k == FIELD {
+                return true;
+            }
+            is_peel(k)
+        }
     }
 }
 

@@ -6,14 +6,14 @@ use mathlib.Core.List.{List, [], _∷_}
 use native.Mathlib.Omega.{arith}
 use lib.ListN.{getD, set}
 use Rattle.rules.specs.Sweep.{also}
-use Rattle.rules.specs.Tree.{Tree}
 use Rattle.rules.specs.Vocabulary.{named}
 use Rattle.nodes.specs.Shown.{View, Worded, treeOf, number}
 use Rattle.nodes.proofs.Names.{marks-as, marks-put}
 pub use Rattle.nodes.proofs.Names.{marks-none as places-none}
 use Rattle.nodes.proofs.Parts.{ranged}
 use Rattle.nodes.proofs.Turns.{carries-in}
-use Rattle.nodes.proofs.Folding.{folded-none, folded-on, Folding, folding-done}
+use Rattle.nodes.proofs.Folding.{folded-none, folded-on, folding-done}
+use Rattle.nodes.proofs.Walking.{Walked}
 use Rattle.records.proofs.Sweep.{has-one, has-not}
 use Rattle.places.specs.declared.Note.{Note}
 use Rattle.places.specs.Places.{Places, Noted, taken, noting, notes, notesBelow, isNamed}
@@ -42,12 +42,12 @@ pub notes-on : (note : Note) (p : ℕ → Bool) (v a i q : ℕ) → a ≤ i → 
 unfolding notes
 notes-on note p v a i q l h z = folded-on (λ i u. noting note u (p i) i) v a i q l h (λ j g k u. ap (λ (b : Bool). noting note u b j) (z j g k))
 
--- The invariant of every loop that notes: the nodes from `from` up to p have been asked, whichever x the nodes are seen by, with the image of x.
-abbrev pub Noting : Note → {X : Type 0} → (X → List ℕ) → (X → List ℕ → ℕ → Bool) → ℕ → ℕ → List ℕ → List ℕ → ℕ → Type 0
-Noting note image G from to r₀ r p = Folding 0 noting note image G from to r₀ r p
+-- The invariant of every loop that notes: the nodes of kind ks below a, up to p, have been noted for their Names.
+abbrev pub Noting : Note → {X : Type 0} {part : List ℕ} {base : ℕ} → (X → View part base) → List ℕ → ℕ → ℕ → List ℕ → List ℕ → ℕ → Type 0
+Noting note view ks a to r₀ r p = Walked 0 noting note view ks (λ x. named (treeOf (view x))) a to r₀ r p
 
 -- a loop over the range of a node has noted what stands below it
-pub noted-below : {note : Note} {X : Type 0} {image : X → List ℕ} (tree : X → Tree) (ks : List ℕ) (a : ℕ) {to p : ℕ} {r₀ r : List ℕ} → Noting note image (λ x. isNamed (tree x) ks) (a + 1) to r₀ r p → to ≤ p
-    → ((x : X) → to ≡ tree x .end a) → Noted image (λ x. notesBelow note (tree x) ks a) r₀ r
+pub noted-below : {note : Note} {X : Type 0} {part : List ℕ} {base : ℕ} {view : X → View part base} {ks : List ℕ} {a to p : ℕ} {r₀ r : List ℕ} → ((W : View part base) → to ≡ treeOf W .end a) → Noting note view ks a to r₀ r p → to ≤ p
+    → Noted (λ x. view x .image) (λ x. notesBelow note (treeOf (view x)) ks a) r₀ r
 unfolding notesBelow notes
-noted-below tree ks a m h e x F N = let z : a + 1 ≡ suc a = omega arith in rw (z, e x) at (folding-done m h x F N)
+noted-below {view = view} {a = a} e m h x F N = let z : a + 1 ≡ suc a = omega arith in rw (z, e (view x)) at (folding-done (m .fold) h x F N)

@@ -2,7 +2,7 @@
 use Prim.Native.Nat.{ℕ, zero, suc, _+_, _-_, _<_, _≤_}
 use mathlib.Core.Path.{_≡_, refl, ap, _∙_, sym, subst}
 use mathlib.Core.Bool.{Bool, true, false, not, true≢false}
-use mathlib.Core.List.{List, [], _∷_, List·Memᴰ}
+use mathlib.Core.List.{List, List·Memᴰ}
 use mathlib.Core.Logic.{_⊎_, inl, inr, ⊎-elim}
 use native.Mathlib.Omega.{arith}
 use borrow.Author.Tests.{ne-eqb, lt-ltb, ltb-true, ltb-false, le-leb, leb-true}
@@ -14,11 +14,8 @@ use Rattle.rules.specs.Tree.{Tree, tree}
 use Rattle.rules.specs.Vocabulary.{Below, someBelow, Named, named, Declares, declares, firstNamed}
 use Rattle.rules.specs.Vocabulary as vocabulary
 use Rattle.rules.proofs.Reflect.{Tells, one-fact, tells-both, tells-not, tells-ltb, tells-also, tells-has, tells-someBelow, tells-named, tells-declares, first-back}
-use Rattle.rules.specs.All.{parts}
 use Rattle.nodes.specs.Table.{folded}
-use Rattle.nodes.specs.First.{NameFirst}
 use Rattle.nodes.proofs.Names.{marks-as}
-use Rattle.nodes.proofs.Shapes.{allIn}
 use Rattle.places.specs.declared.Note.the-variants.{First, Last, Off}
 use Rattle.places.specs.Places.{Places, noting, notes, notesBelow, isNamed, firstOf, lastOf}
 
@@ -181,9 +178,3 @@ first-named t ks a i B = go (eq-or-ne (firstOf t ks a (t .text (i + 1))) 0)
 -- the tables after taking off
 pub firsts-off : {s : List ℕ} (ks : List ℕ) (a : ℕ) {r : List ℕ} → Places s (λ w. notesBelow Off (tree s) ks a w (firstOf (tree s) ks a w)) r → Places s (λ w. 0) r
 firsts-off {s} ks a N = marks-as (λ w. first-off (tree s) ks a w) N
-
--- Params and Lets begin with their Name, and are parts of an entry
-pub parts-are : (k : ℕ) → (k ≡ 10) ⊎ (k ≡ 25) → NameFirst k × (allIn (k ∷ []) parts ≡ true)
-unfolding allIn has
-parts-are k (inl e) = rw e ((omega arith, refl), refl)
-parts-are k (inr e) = rw e ((omega arith, refl), refl)

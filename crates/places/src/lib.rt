@@ -1,11 +1,10 @@
 // One node for each name: the first, or the last, of a kind below a node that has it as its Name ("met before", "no such Let in an earlier statement", "the event's last declaration" of document 01).
 ghost use mathlib.Core.Path.{_≡_};
-ghost use mathlib.Core.Logic.{_⊎_};
 ghost use mathlib.Core.List.{List, [], _∷_};
 ghost use Prim.Native.Nat.{ℕ, _+_, _-_, _<_};
 ghost use Rattle.records.specs.Words.{old, new};
 ghost use Rattle.nodes.specs.Shown.{View, In, Worded, treeOf};
-ghost use Rattle.nodes.specs.First.{NameFirst, Declaring};
+ghost use Rattle.nodes.specs.First.{NameFirst, Declaring, NamedPart};
 ghost use Rattle.places.specs.Places.{Places, Notes, taken, noting, notesBelow, isNamed};
 
 // One node for each of 1,024 names, by name number less one; 0 where there is none.
@@ -74,7 +73,7 @@ pub fn note_names(note: Note, kind: usize, nodes: &[u8], places: &mut Places)
 
 // The same for the parameters or the Lets of an entry, by a walk over its children.
 pub fn note_parts(note: Note, kind: usize, nodes: &[u8], entry: usize, places: &mut Places)
-    requires { ⌜ ((kind ≡ 10) ⊎ (kind ≡ 25)) × View (now nodes) 0 × In (now nodes) 0 entry × (0 < entry) ⌝ }
+    requires { ⌜ NamedPart kind × View (now nodes) 0 × In (now nodes) 0 entry × (0 < entry) ⌝ }
     ensures { λ _. ⌜ Notes (λ (W : View (old nodes) 0). notesBelow note (treeOf W) (kind ∷ []) entry) places ⌝ }
 {
     let end = nodes::end(nodes, 0, entry);

@@ -10,9 +10,7 @@ use lib.Dec.{eqb, leb}
 use lib.ListN.{length, length-append, getD, take, drop, length-drop, drop-of-length-le, replicate}
 use lib.Seq.{sets, sets-eq, set-out, take-all, drop-drop}
 use Rattle.image.specs.Pick.{pick, both}
-use Rattle.image.specs.Text.{namesOk}
-use Rattle.image.specs.Tree.{treeOk, depthOk, usedOk}
-use Rattle.image.specs.Admit.{lengthOk, versionOk, countsOk, layoutOk, namesOf, textPart, headerRefusal, bodyRefusal, refusal, verdict, nodeCount, nameCount, nodesOf}
+use Rattle.image.specs.Admit.{refusal, verdict, nodeCount, nameCount}
 use Rattle.image.specs.declared.Image.{Image}
 use Rattle.image.specs.declared.Admission.the-variants as admission
 use Rattle.image.proofs.Every.{both-left}
@@ -25,7 +23,7 @@ use Rattle.rules.specs.Linear.{linear}
 use Rattle.rules.specs.All.{offences}
 use Rattle.rules.specs.Passes as passes
 use Rattle.rules.specs.Answers as rules
-use Rattle.rules.proofs.Answers.{length-words, pass-refused, pass-admitted, list-refused, list-short, list-listed, buffer-refused, buffer-short, buffer-listed}
+use Rattle.rules.proofs.Answers.{refusal-most, length-words, pass-refused, pass-admitted, list-refused, list-short, list-listed, buffer-refused, buffer-short, buffer-listed}
 use Rattle.rules.proofs.Passes.{judges-resolve, judges-access, judges-linear}
 use Rattle.records.specs.Records.{words, Laid, Added}
 use Rattle.records.proofs.Laws.{laid-join, laid-long}
@@ -37,29 +35,7 @@ use Rattle.typeck.specs.declared.Reply.the-variants as reply
 use Rattle.typeck.specs.declared.Listed.the-variants as listed
 use Rattle.typeck.specs.declared.Pass.{Pass}
 use Rattle.typeck.specs.declared.Pass.the-variants as pass
-use Rattle.typeck.specs.declared.Question.{Question}
-use Rattle.typeck.specs.Face.{Stands, answerOf, verdictOf, Judged, yesNo, numbered, Replied, listingOf, listedOf, ListedAll, partAnswer, partWords, ListedPart, recordsOf, questionOf, firstOf}
-
--- the numbers of refusal end at 8
-pick-most : (b : Bool) (x y : ℕ) → x ≤ 8 → y ≤ 8 → pick b x y ≤ 8
-pick-most true x y h g = h
-pick-most false x y h g = g
-
-four-most : (a b c d : Bool) (i j k l : ℕ) → i ≤ 8 → j ≤ 8 → k ≤ 8 → l ≤ 8 → pick a (pick b (pick c (pick d 0 i) j) k) l ≤ 8
-four-most a b c d i j k l e f g h =
-    pick-most a _ l (pick-most b _ k (pick-most c _ j (pick-most d 0 i (omega arith) e) f) g) h
-
-header-most : (s : List ℕ) → headerRefusal s ≤ 8
-unfolding headerRefusal
-header-most s = four-most (lengthOk s) (versionOk s) (countsOk s) (layoutOk s (nodeCount s) (nameCount s)) 4 3 2 1 (omega arith) (omega arith) (omega arith) (omega arith)
-
-body-most : (nodes names text : List ℕ) (n m : ℕ) → bodyRefusal nodes names text n m ≤ 8
-unfolding bodyRefusal
-body-most nodes names text n m = four-most (namesOk names text m) (treeOk nodes names text n m) (depthOk nodes n) (usedOk nodes n m) 8 7 6 5 (omega arith) (omega arith) (omega arith) (omega arith)
-
-refusal-most : (s : List ℕ) → refusal s ≤ 8
-unfolding refusal
-refusal-most s = pick-most (eqb (headerRefusal s) 0) _ _ (body-most (nodesOf s) (namesOf s) (textPart s) (nodeCount s) (nameCount s)) (header-most s)
+use Rattle.typeck.specs.Face.{Stands, answerOf, verdictOf, Judged, yesNo, numbered, Replied, listingOf, listedOf, ListedAll, partAnswer, partWords, ListedPart, recordsOf, firstOf}
 
 module _ (s : List ℕ) where
   pub admitted-by : (i : Image) → verdict (refusal s) s ≡ admission.Admitted i → Admitted s i
@@ -194,13 +170,10 @@ module _ (s o : List ℕ) where
         let f = eq-eqb (refusal s) 0 e in
         (stands-records k (rw f (ap rules.listed c)), rw f (L .words))
 
--- what each pass lists, and what each question answers, is what `list_of` and `holds` promise
+-- what each pass lists is what `list_of` promises
 pub listed-by : {p q : Pass} (s : List ℕ) (most : ℕ) {o o′ : List ℕ} {k : ℕ} → p ≡ q → most ≤ 2 ^ 38
     → Added (λ (_ : Unit {0}). recordsOf q (tree s)) most o 0 o′ k → Added (λ (_ : Unit {0}). recordsOf p (tree s)) (2 ^ 38) o 0 o′ k
 listed-by s most e h a = record { laid = λ x. rw e (a .laid x); few = let f = a .few in omega arith }
-
-pub held-by : {p q : Question} (s w : List ℕ) {r : Bool} → p ≡ q → r ≡ questionOf q (tree s) w → r ≡ questionOf p (tree s) w
-held-by s w e h = rw e h
 
 -- how many records the three passes have
 pub offences-many : (t : Tree) → length (offences t) ≡ length (resolve t) + length (access t) + length (linear t)

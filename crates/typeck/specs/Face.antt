@@ -13,12 +13,9 @@ use Rattle.rules.specs.Vocabulary.{Rec}
 use Rattle.rules.specs.Resolve.{resolve}
 use Rattle.rules.specs.Access.{access}
 use Rattle.rules.specs.Linear.{linear}
-use Rattle.rules.specs.Model.{isState, isDeclaredAsset, isKnownAsset}
 use Rattle.rules.specs.Answers as rules
 use Rattle.typeck.specs.declared.Pass.{Pass}
 use Rattle.typeck.specs.declared.Pass.the-variants as pass
-use Rattle.typeck.specs.declared.Question.{Question}
-use Rattle.typeck.specs.declared.Question.the-variants as question
 use Rattle.typeck.specs.declared.Verdict.{Verdict}
 use Rattle.typeck.specs.declared.Verdict.the-variants as verdict
 use Rattle.typeck.specs.declared.Reply.{Reply}
@@ -91,17 +88,12 @@ partWords pass s words = pick (eqb (refusal s) 0) (rules.partBuffer pass s words
 abbrev pub ListedPart : (Tree → List Rec) → List ℕ → List ℕ → Listed → List ℕ → Type 0
 ListedPart pass s words r words′ = Stands listingOf listedOf (partAnswer pass s) r × (words′ ≡ partWords pass s words)
 
--- Within the crate: the records of each pass, what each question asks, and the case that a list of records gives, by its first
+-- Within the crate: the records of each pass, and the case that a list of records gives, by its first
 
 abbrev pub recordsOf : Pass → Tree → List Rec
 recordsOf pass.Resolve = resolve
 recordsOf pass.Access = access
 recordsOf pass.Linear = linear
-
-abbrev pub questionOf : Question → Tree → List ℕ → Bool
-questionOf question.State = isState
-questionOf question.Declared = isDeclaredAsset
-questionOf question.Known = isKnownAsset
 
 abbrev pub firstOf : List ℕ → List Rec → Verdict
 firstOf s [] = verdict.Accepted

@@ -1,6 +1,7 @@
 // The public face of the checker: any bytes in, an answer in document 01's numbers out. No function here asks anything of its caller.
 use image::Admission;
 use image::Image;
+use model::Question;
 ghost use mathlib.Core.Path.{_≡_};
 ghost use mathlib.Core.List.{List};
 ghost use Prim.Native.Nat.{_+_, _*_, _≤_, _^_};
@@ -16,7 +17,8 @@ ghost use Rattle.rules.specs.All.{offences};
 ghost use Rattle.records.specs.Words.{old, new};
 ghost use Rattle.records.specs.Records.{Laid, Adds};
 ghost use Rattle.nodes.specs.Shown.{Admitted};
-ghost use Rattle.typeck.specs.Face.{Judged, Replied, ListedAll, ListedPart, recordsOf, questionOf, firstOf, yesNo};
+ghost use Rattle.model.specs.Questions.{questionOf};
+ghost use Rattle.typeck.specs.Face.{Judged, Replied, ListedAll, ListedPart, recordsOf, firstOf, yesNo};
 
 // What a pass answers: the image's refusal, acceptance, or the code, the place and its two span words.
 pub enum Verdict {
@@ -259,25 +261,6 @@ pub fn linear_list(image: &[u8], words: &mut [u16]) -> Listed
     part_of(Pass::Linear, image, words)
 }
 
-// The questions about a name.
-enum Question {
-    State,
-    Declared,
-    Known,
-}
-
-// What the model of an admitted image answers.
-fn holds(question: Question, image: &[u8], head: Image, name: &[u8]) -> bool
-    requires { ⌜ Admitted (now image) head ⌝ }
-    ensures { λ r. ⌜ r ≡ questionOf question (tree (old image)) (old name) ⌝ }
-{
-    match question {
-        Question::State => model::is_state(image, head, name),
-        Question::Declared => model::is_declared_asset(image, head, name),
-        Question::Known => model::is_known_asset(image, head, name),
-    }
-}
-
 fn yes_no(yes: bool) -> Reply
     ensures { λ r. ⌜ r ≡ yesNo yes ⌝ }
 {
@@ -289,7 +272,7 @@ fn reply_of(question: Question, image: &[u8], name: &[u8]) -> Reply
 {
     match image::admit(image) {
         Admission::Refused(r) => Reply::Image(r),
-        Admission::Admitted(head) => yes_no(holds(question, image, head, name)),
+        Admission::Admitted(head) => yes_no(model::holds(question, image, head, name)),
     }
 }
 

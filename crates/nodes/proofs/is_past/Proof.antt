@@ -1,76 +1,31 @@
-use mathlib.Core.Path.{refl}
+-- `is_past` meets its contract: each case's own kinds.
 use borrow.Author.Needs.{needs}
-use borrow.Author.Tests.{ne-eqb}
-use mathlib.Core.Path.{_≡_, _∙_, sym, ap}
-use mathlib.Core.Bool.{Bool}
 use Prim.Native.Nat.{ℕ}
+use mathlib.Core.Path.{_≡_, sym, ap, _∙_}
+use mathlib.Core.Bool.{Bool}
+use borrow.Author.Tests.{eq-eqb, ne-eqb}
+use lib.Dec.{eqb}
 use Rattle.rules.specs.Sweep.{has}
 use Rattle.nodes.specs.declared.Past.{Past}
 use Rattle.nodes.specs.Past.{takenOff}
+use Rattle.nodes.proofs.Names.{either-false}
 use Rattle.nodes.proofs.is_past.Statement.{statement}
 use Rattle.nodes.proofs.is_past.Tie as tie
 
-told : (v : Bool) {p q : Past} (k j : ℕ) → p ≡ q → k ≡ j → v ≡ has j (takenOff q) → v ≡ has k (takenOff p)
-told v {p} {q} k j d e h = h ∙ sym (ap (λ (x : ℕ). has x (takenOff q)) e) ∙ sym (ap (λ (x : Past). has k (takenOff x)) d)
-
-enum-told : tie.Need-enum-told
-enum-told c = search needs
-
-enum-told-2 : tie.Need-enum-told-2
-enum-told-2 c = search needs
-
-enum-told-3 : tie.Need-enum-told-3
-enum-told-3 c = search needs
+told : {p q : Past} (k : ℕ) {v : Bool} → p ≡ q → v ≡ has k (takenOff q) → v ≡ has k (takenOff p)
+told k d h = h ∙ sym (ap (λ (x : Past). has k (takenOff x)) d)
 
 returns : tie.Need-returns
 unfolding has
-returns c = told _ _ 44 (c .before .enum-told .given .1) (c .match2 .keys1) refl
-
-returns-2 : tie.Need-returns-2
-unfolding has
-returns-2 c = told _ _ 45 (c .before .enum-told .given .1) (c .match2 .keys2) refl
+returns c = told _ (c .before .enum-told3 .given .1) (sym (simp (eq-eqb _ _ (c .if1 .taken))))
 
 returns-3 : tie.Need-returns-3
 unfolding has
-returns-3 c = told _ _ _ (c .before .enum-told .given .1) refl (sym (simp (ne-eqb _ _ (c .match2 .rest .0 .1), ne-eqb _ _ (c .match2 .rest .1))))
+returns-3 c = told _ (c .enum-told2 .given .1) (sym (either-false (eqb (c .before .before .args .k) 42)))
 
 returns-4 : tie.Need-returns-4
 unfolding has
-returns-4 c = told _ _ 42 (c .before .enum-told2 .given .1) (c .match3 .keys1) refl
-
-returns-5 : tie.Need-returns-5
-unfolding has
-returns-5 c = told _ _ _ (c .before .enum-told2 .given .1) refl (sym (simp (ne-eqb _ _ (c .match3 .rest .1))))
-
-returns-6 : tie.Need-returns-6
-unfolding has
-returns-6 c = told _ _ 42 (c .before .enum-told3 .given .1) (c .match4 .keys1) refl
-
-returns-7 : tie.Need-returns-7
-unfolding has
-returns-7 c = told _ _ 44 (c .before .enum-told3 .given .1) (c .match4 .keys2) refl
-
-returns-8 : tie.Need-returns-8
-unfolding has
-returns-8 c = told _ _ 45 (c .before .enum-told3 .given .1) (c .match4 .keys3) refl
-
-returns-9 : tie.Need-returns-9
-unfolding has
-returns-9 c = told _ _ _ (c .before .enum-told3 .given .1) refl (sym (simp (ne-eqb _ _ (c .match4 .rest .0 .0 .1), ne-eqb _ _ (c .match4 .rest .0 .1), ne-eqb _ _ (c .match4 .rest .1))))
+returns-4 c = told _ (c .before .before .enum-told3 .given .1) (c .is-peel2 .ensures ∙ sym (simp (ne-eqb _ _ (c .before .if1 .left))))
 
 pub is-past-spec : {M : Type 1} → statement M
-is-past-spec =
-    tie.close
-    (tie.spec
-    enum-told
-    enum-told-2
-    enum-told-3
-    returns
-    returns-2
-    returns-3
-    returns-4
-    returns-5
-    returns-6
-    returns-7
-    returns-8
-    returns-9)
+is-past-spec = tie.close (tie.spec (λ c. search needs) (λ c κs. search needs) (λ c. search needs) (λ c. search needs) returns (λ c κs. search needs) (λ c. told _ (c .before .enum-told .given .1) (c .is-peel .ensures)) returns-3 returns-4)

@@ -6,6 +6,7 @@ use mathlib.Core.Logic.{inl, inr}
 use Rattle.rules.specs.Tree.{param, «let», statement as statements}
 use Rattle.records.proofs.Laws.{added-nothing, added-by, added-as, added-join}
 use Rattle.records.proofs.Sweep.{keep-none, has-not, run-below-later}
+use Rattle.nodes.proofs.Naming.{naming}
 use Rattle.nodes.specs.Shown.{View, treeOf}
 use Rattle.places.specs.Places.{firstOf}
 use Rattle.places.proofs.Reading.{firsts-off}
@@ -54,7 +55,7 @@ returns-2 c =
 pub entry-spec : {M : Type 1} → statement M
 entry-spec =
     tie.close
-    (tie.spec (λ c κs. search needs) returns (λ c κs. (inl refl, search needs, search needs, search needs)) (λ c κs. (inr refl, search needs, search needs, search needs)) parameters-requires (λ c κs. search needs)
+    (tie.spec (λ c κs. search needs) returns (λ c κs. (naming .param, search needs, search needs, search needs)) (λ c κs. (naming .lets, search needs, search needs, search needs)) parameters-requires (λ c κs. search needs)
     (λ c κs. let P = c .before .before .before .before .before .before .before .before .before .before .before .before .before .before .pre in let W = P .0 .named .view in record { view = W; here = P .1; first = c .first-statement .ensures W }) statements-requires-2
-    (λ c κs. let P = c .before .before .before .before .before .before .before .before .before .before .before .before .before .before .before .before .before .before .before .before .before .before .pre in (inl refl, P .0 .named .view, P .1, P .2))
-    (λ c κs. let P = c .before .before .before .before .before .before .before .before .before .before .before .before .before .before .before .before .before .before .before .before .before .before .before .before .pre in (inr refl, P .0 .named .view, P .1, P .2)) (λ c. search needs) returns-2)
+    (λ c κs. let P = c .before .before .before .before .before .before .before .before .before .before .before .before .before .before .before .before .before .before .before .before .before .before .pre in (naming .param, P .0 .named .view, P .1, P .2))
+    (λ c κs. let P = c .before .before .before .before .before .before .before .before .before .before .before .before .before .before .before .before .before .before .before .before .before .before .before .before .pre in (naming .lets, P .0 .named .view, P .1, P .2)) (λ c. search needs) returns-2)

@@ -7,14 +7,14 @@ use Rattle.rules.specs.Sweep.{has}
 use Rattle.rules.specs.Tree.{«let»}
 use Rattle.records.proofs.Laws.{asked, asked-at, added-by, added-as, added-join}
 use Rattle.nodes.specs.Shown.{treeOf}
-use Rattle.places.proofs.Reading.{parts-are}
+use Rattle.nodes.proofs.Naming.{naming}
 use Rattle.resolve_names.proofs.Laws.{lets-at, at-itself}
 use Rattle.resolve_names.proofs.Lent.{among-in, state-of}
 use Rattle.resolve_names.proofs.let_names.Statement.{statement}
 use Rattle.resolve_names.proofs.let_names.Tie as tie
 
 met-requires : tie.Need-met-requires
-met-requires c κs = (parts-are 25 (inr refl) .0, among-in (c .before .before .pre .0 .scope .body) (c .before .before .pre .1) (c .before .before .pre .0 .scope .first-lets), c .before .before .pre .1, omega arith)
+met-requires c κs = (naming .lets .0, among-in (c .before .before .pre .0 .scope .body) (c .before .before .pre .1) (c .before .before .pre .0 .scope .first-lets), c .before .before .pre .1, omega arith)
 
 returns : tie.Need-returns
 returns c =
@@ -29,6 +29,6 @@ returns c =
 pub let-names-spec : {M : Type 1} → statement M
 let-names-spec =
     tie.close
-    (tie.spec met-requires (λ c κs. search needs) (λ c κs. (parts-are 25 (inr refl) .0, state-of (c .before .before .before .before .before .before .before .pre .0), c .before .before .before .before .before .before .before .pre .1)) (λ c κs. search needs)
+    (tie.spec met-requires (λ c κs. search needs) (λ c κs. (naming .lets .0, state-of (c .before .before .before .before .before .before .before .pre .0), c .before .before .before .before .before .before .before .pre .1)) (λ c κs. search needs)
     (λ c κs. (among-in (c .before .before .before .before .before .before .before .before .before .before .before .before .pre .0 .scope .body) (c .before .before .before .before .before .before .before .before .before .before .before .before .pre .1) (c .before .before .before .before .before .before .before .before .before .before .before .before .pre .0 .first-params), c .before .before .before .before .before .before .before .before .before .before .before .before .pre .1))
     (λ c κs. search needs) (λ c. search needs) returns)

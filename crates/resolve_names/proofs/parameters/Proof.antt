@@ -13,7 +13,7 @@ use Rattle.records.proofs.Sweep.{sweep-long}
 use Rattle.nodes.specs.Shown.{View, treeOf}
 use Rattle.nodes.proofs.Shapes.{allIn, skips-parts}
 use Rattle.nodes.proofs.Steps.{Walk, walk-on, below-starts, below-moves, below-done}
-use Rattle.places.proofs.Reading.{parts-are}
+use Rattle.nodes.proofs.Naming.{naming}
 use Rattle.resolve_names.specs.Seen.{Params}
 use Rattle.resolve_names.proofs.Laws.{params-at}
 use Rattle.resolve_names.proofs.Lent.{among-params}
@@ -32,7 +32,7 @@ inside : (c : tie.In-loop Inv-loop μ-loop) (W : View (c .before .before .before
 inside c W = let l = c .before .loop .inv .sweep .low in let h = c .loop-test .taken in let e = c .before .before .end .ensures W in (omega arith, omega arith)
 
 met-requires : tie.Need-met-requires Inv-loop μ-loop
-met-requires c κs = let d = (c .before .before .before .before .before) in let T = d .before .before .before .before .before .pre .0 in let b = inside d (T .named .view) in (parts-are 10 (inl refl) .0, among-params T (b .0) (b .1), search needs, omega arith)
+met-requires c κs = let d = (c .before .before .before .before .before) in let T = d .before .before .before .before .before .pre .0 in let b = inside d (T .named .view) in (naming .param .0, among-params T (b .0) (b .1), search needs, omega arith)
 
 moved : (c : tie.After-end2 Inv-loop μ-loop) → (c .before .before .before .before .before .before .before .before .before .before .before .before .loop .p < c .end2 .result) × (c .end2 .result ≤ c .before .before .before .before .before .before .before .before .before .before .before .before .before .end .result)
 moved c = let d = (c .before .before .before .before .before .before .before .before .before .before .before) in below-moves (d .before .before .before .before .before .args .entry) (d .before .before .before .before .before .pre .0) (d .before .before .before .before .before .pre .1) (d .before .before .end .ensures) (d .before .loop .inv) (d .loop-test .taken) (c .end2 .ensures)
@@ -52,5 +52,5 @@ pub parameters-spec : {M : Type 1} → statement M
 parameters-spec =
     tie.close
     (tie.spec Inv-loop μ-loop (λ c κs. search needs) (λ c. search needs) (λ c. below-starts (c .before .before .before .args .entry) (c .before .before .before .pre .0) (c .before .before .before .pre .1) (c .end .ensures))
-    (λ c κs. (parts-are 10 (inl refl) .0, c .before .before .before .before .before .pre .0 .named, search needs)) (λ c. search needs) (λ c κs. search needs) met-requires (λ c. search needs) (λ c κs. search needs) (λ c κs. search needs) (λ c. let m = moved c in omega arith) loop-again
+    (λ c κs. (naming .param .0, c .before .before .before .before .before .pre .0 .named, search needs)) (λ c. search needs) (λ c κs. search needs) met-requires (λ c. search needs) (λ c κs. search needs) (λ c κs. search needs) (λ c. let m = moved c in omega arith) loop-again
     (λ c. sweep-long (c .before .loop .inv .sweep) (c .before .before .before .before .before .pre .0)) (λ c. below-done (c .before .before .before .before .before .args .entry) (c .before .loop .inv) (c .loop-test .left) (c .before .before .end .ensures)))

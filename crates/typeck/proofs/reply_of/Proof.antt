@@ -1,7 +1,8 @@
 -- `reply_of` meets its contract: admission, then the question.
 use borrow.Author.Needs.{needs}
 use mathlib.Core.Path.{sym, ap, _∙_}
-use Rattle.typeck.specs.Face.{yesNo, questionOf}
+use Rattle.model.specs.Questions.{questionOf}
+use Rattle.typeck.specs.Face.{yesNo}
 use Rattle.typeck.proofs.Laws.{admitted-by, replied-refused, replied-by}
 use Rattle.typeck.proofs.reply_of.Statement.{statement}
 use Rattle.typeck.proofs.reply_of.Tie as tie

@@ -3,12 +3,12 @@ use borrow.Author.Needs.{needs}
 use mathlib.Core.Path.{_≡_, sym, _∙_}
 use Rattle.rules.specs.Vocabulary.{named}
 use Rattle.records.proofs.Sweep.{has-one, has-not}
 use Rattle.nodes.specs.Shown.{View, treeOf}
 use Rattle.nodes.proofs.Turns.{marks-skip, marks-keep, named-at}
-use Rattle.model.proofs.mark_name.Statement.{statement}
-use Rattle.model.proofs.mark_name.Tie as tie
+use Rattle.nodes.proofs.mark_name.Statement.{statement}
+use Rattle.nodes.proofs.mark_name.Tie as tie
 
-is-one : (c : tie.Then1) (W : View (c .before .before .before .args .nodes .now) 0) → treeOf W .kind (c .before .before .before .args .p) ≡ c .before .before .before .args .kind
+is-one : (c : tie.Then1) (W : View (c .before .before .before .args .nodes .now) 0) → treeOf W .kind (c .before .before .before .args .p) ≡ c .before .before .before .args .sort
 is-one c W = sym (c .before .kind .ensures W) ∙ c .if1 .taken
 
 mark-requires : tie.Need-mark-requires
