@@ -1,14 +1,13 @@
 -- One node's part in the pass: what each test that is passed says of the rules 50 and 51.
 use Prim.Native.Nat.{ℕ, _+_, _<_, _≤_}
-use mathlib.Core.Path.{_≡_, refl, ap, _∙_, sym}
+use mathlib.Core.Path.{_≡_, ap, _∙_, sym}
 use mathlib.Core.Bool.{Bool, true, false, not}
-use mathlib.Core.List.{List, [], _∷_, _++_, append-nil}
+use mathlib.Core.List.{append-nil}
 use native.Mathlib.Omega.{arith}
 use borrow.Author.Tests.{eq-eqb, ne-eqb, le-ltb, lt-ltb}
 use Rattle.image.specs.Pick.{both}
-use Rattle.rules.specs.Sweep.{keep, has}
-use Rattle.rules.specs.Tree.{Tree, ident, assign, call, peels-fields}
-use Rattle.rules.specs.Vocabulary.{Rec, rec, only, below, down, atBottom, isField}
+use Rattle.rules.specs.Tree.{Tree, peels-fields}
+use Rattle.rules.specs.Vocabulary.{rec, only, down, atBottom, isField}
 use Rattle.rules.specs.Words.{writers}
 use Rattle.rules.specs.Model.{isState}
 use Rattle.rules.specs.Access.{rule50, isWrite, isUnwritten, assignRule, callRule}

@@ -1,14 +1,13 @@
 -- One entry: its statements lent as their own part, and 51 in them.
-use Prim.Native.Nat.{ℕ, _-_, _<_, _≤_}
-use mathlib.Core.Path.{_≡_, refl, _∙_, sym}
-use mathlib.Core.Bool.{Bool, true, false}
-use mathlib.Core.List.{List, [], _∷_}
+use Prim.Native.Nat.{ℕ, _-_, _<_}
+use mathlib.Core.Path.{_≡_, _∙_, sym}
+use mathlib.Core.Bool.{Bool, false}
+use mathlib.Core.List.{List}
 use native.Mathlib.Omega.{arith}
-use Rattle.rules.specs.Sweep.{run, has}
+use Rattle.rules.specs.Sweep.{run}
 use lib.ListN.{replicate}
 use Rattle.image.specs.Admit.{nodeCount}
-use Rattle.rules.specs.Tree.{tree, assign, call}
-use Rattle.rules.specs.Vocabulary.{someBelow, named, declares}
+use Rattle.rules.specs.Tree.{assign, call}
 use Rattle.rules.specs.Model.{isState}
 use Rattle.rules.specs.Access.{assignRule, callRule, statementRules}
 use Rattle.records.proofs.Sweep.{keep-one, has-one, has-not}
@@ -16,15 +15,14 @@ use Rattle.nodes.specs.Shown.{View, Shown, In, treeOf}
 use Rattle.nodes.specs.Marks.{Marks, Made}
 use Rattle.nodes.specs.First.{Starts}
 use Rattle.nodes.proofs.Names.{marks-none}
-use Rattle.nodes.proofs.Turns.{set-fresh}
 use Rattle.nodes.proofs.Heads.{view-of, root-of}
 use Rattle.nodes.proofs.Flat.{flat, not-assign}
 use Rattle.nodes.specs.State.{State}
-use Rattle.access.specs.Seen.{Tables, Body, writtenIn, isWriter, at51, item51}
+use Rattle.access.specs.Seen.{AccessTables, WritingBody, writtenIn, isWriter, at51, item51}
 
 -- what the scan of the statements is lent
-abbrev pub body-of : {nodes part : List ℕ} {state writer written marked : List Bool} {f : ℕ} (e : ℕ) (T : Tables nodes state writer written) → Shown (T .view .image) part f (treeOf (T .view) .end e)
-    → Marks (T .view .image) (writtenIn (treeOf (T .view)) e) marked → Body part f state writer marked
+abbrev pub body-of : {nodes part : List ℕ} {state writer written marked : List Bool} {f : ℕ} (e : ℕ) (T : AccessTables nodes state writer written) → Shown (T .view .image) part f (treeOf (T .view) .end e)
+    → Marks (T .view .image) (writtenIn (treeOf (T .view)) e) marked → WritingBody part f state writer marked
 body-of e T S M = record {
   writing = record {
     view = record { image = T .view .image; upto = treeOf (T .view) .end e; shown = S };
@@ -36,7 +34,7 @@ body-of e T S M = record {
 }
 
 -- the tables with another that has no name marked
-abbrev pub cleaned : {nodes : List ℕ} {state writer written marked : List Bool} (T : Tables nodes state writer written) → Marks (T .view .image) (λ w. false) marked → Tables nodes state writer marked
+abbrev pub cleaned : {nodes : List ℕ} {state writer written marked : List Bool} (T : AccessTables nodes state writer written) → Marks (T .view .image) (λ w. false) marked → AccessTables nodes state writer marked
 cleaned T M = record { view = T .view; root = T .root; state-marks = T .state-marks; writer-marks = T .writer-marks; clean = M }
 
 -- one sweep over the nodes of the statements is 51 in the entry
@@ -51,7 +49,7 @@ module _ {s nodes : List ℕ} (S : Shown s nodes 0 (nodeCount s)) {state : List 
   abbrev pub state-of : State nodes 0 state
   state-of = record { view = view-of S; state-marks = f (view-of S) (marks-none s (S .admitted)) }
 
-  abbrev pub tables-of : {writer : List Bool} → (Marks s (λ w. false) (replicate 1024 false) → Marks s isWriter writer) → Tables nodes state writer (replicate 1024 false)
+  abbrev pub tables-of : {writer : List Bool} → (Marks s (λ w. false) (replicate 1024 false) → Marks s isWriter writer) → AccessTables nodes state writer (replicate 1024 false)
   tables-of g = record {
     view = view-of S;
     root = root-of S;

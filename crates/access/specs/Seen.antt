@@ -23,7 +23,7 @@ abbrev pub isWriter : List ℕ → Bool
 isWriter w = hasWord w writers
 
 -- the nodes of an image, the state names, the words that write their base, and a table with no name marked
-pub record Tables (nodes : List ℕ) (state writer written : List Bool) : Type 0 where
+pub record AccessTables (nodes : List ℕ) (state writer written : List Bool) : Type 0 where
   pub view : View nodes 0
   pub root : In nodes 0 0
   pub state-marks : Marks (view .image) (isState (treeOf view)) state
@@ -37,7 +37,7 @@ pub record Writing (nodes : List ℕ) (base : ℕ) (state written : List Bool) :
   pub entry : ℕ
   pub written-marks : Marks (view .image) (writtenIn (treeOf view) entry) written
 
-pub record Body (nodes : List ℕ) (base : ℕ) (state writer written : List Bool) : Type 0 where
+pub record WritingBody (nodes : List ℕ) (base : ℕ) (state writer written : List Bool) : Type 0 where
   pub writing : Writing nodes base state written
   pub writer-marks : Marks (writing .view .image) isWriter writer
 
@@ -56,16 +56,16 @@ abbrev pub item51 : ℕ → Tree → List Rec
 item51 p t = keep (has (t .kind p) entry) (λ e. below t statement e (statementRules t e)) p
 
 -- what F says of the tree of the nodes that are lent; of the tree and the entry
-abbrev pub seenAll : (Tree → List Rec) → (nodes : Lent (List ℕ)) (state writer written : Lent (List Bool)) → Tables (old nodes) (old state) (old writer) (old written) → List Rec
-seenAll F nodes state writer written T = F (treeOf (T .view))
+abbrev pub seenAccess : (Tree → List Rec) → (nodes : Lent (List ℕ)) (state writer written : Lent (List Bool)) → AccessTables (old nodes) (old state) (old writer) (old written) → List Rec
+seenAccess F nodes state writer written T = F (treeOf (T .view))
 
-abbrev pub seenIn : (Tree → ℕ → List Rec) → (nodes : Lent (List ℕ)) (base : ℕ) (state writer written : Lent (List Bool)) → Body (old nodes) base (old state) (old writer) (old written) → List Rec
+abbrev pub seenIn : (Tree → ℕ → List Rec) → (nodes : Lent (List ℕ)) (base : ℕ) (state writer written : Lent (List Bool)) → WritingBody (old nodes) base (old state) (old writer) (old written) → List Rec
 seenIn F nodes base state writer written T = F (treeOf (T .writing .view)) (T .writing .entry)
 
 -- 51 at all of the nodes that are lent
-abbrev pub swept51 : (nodes : Lent (List ℕ)) (base : ℕ) (state writer written : Lent (List Bool)) → Body (old nodes) base (old state) (old writer) (old written) → List Rec
+abbrev pub swept51 : (nodes : Lent (List ℕ)) (base : ℕ) (state writer written : Lent (List Bool)) → WritingBody (old nodes) base (old state) (old writer) (old written) → List Rec
 swept51 nodes base state writer written T = run (λ p. at51 p (treeOf (T .writing .view)) (T .writing .entry)) base (T .writing .view .upto - base)
 
 -- no name is marked afterwards
-abbrev pub Cleans : (nodes : Lent (List ℕ)) (state writer written : Lent (List Bool)) → Type 0
-Cleans nodes state writer written = (T : Tables (old nodes) (old state) (old writer) (old written)) → Marks (T .view .image) (λ w. false) (new written)
+abbrev pub CleansWritten : (nodes : Lent (List ℕ)) (state writer written : Lent (List Bool)) → Type 0
+CleansWritten nodes state writer written = (T : AccessTables (old nodes) (old state) (old writer) (old written)) → Marks (T .view .image) (λ w. false) (new written)

@@ -20,7 +20,7 @@ ghost use Rattle.records.specs.Records.{Adds, Asks};
 ghost use Rattle.nodes.specs.Shown.{View, In, Admitted, treeOf};
 ghost use Rattle.nodes.specs.Marks.{Marks, Turns};
 ghost use Rattle.nodes.specs.State.{State, seen};
-ghost use Rattle.access.specs.Seen.{Tables, Writing, Body, seenAll, seenIn, swept51, Cleans, at50, item50, at51, item51, clauseHas, writtenIn, isWriter};
+ghost use Rattle.access.specs.Seen.{AccessTables, Writing, WritingBody, seenAccess, seenIn, swept51, CleansWritten, at50, item50, at51, item51, clauseHas, writtenIn, isWriter};
 
 // 50 at a node of an Invariant: an Ident that is no state name.
 fn rule50(nodes: &[u8], p: usize, state: &Marks) -> bool
@@ -122,7 +122,7 @@ fn rule51(
     writer: &Marks,
     written: &Marks,
 ) -> bool
-    requires { ⌜ Body (now nodes) base (now state) (now writer) (now written) × In (now nodes) base p ⌝ }
+    requires { ⌜ WritingBody (now nodes) base (now state) (now writer) (now written) × In (now nodes) base p ⌝ }
     ensures { λ r. ⌜ Asks (seenIn (at51 p) nodes base state writer written) 51 p r ⌝ }
 {
     match nodes::kind(nodes, base, p) {
@@ -147,7 +147,7 @@ fn statements(
     out: &mut [u16],
     count: usize,
 ) -> usize
-    requires { ⌜ Body (now nodes) base (now state) (now writer) (now written) × (count < 2 ^ 50) ⌝ }
+    requires { ⌜ WritingBody (now nodes) base (now state) (now writer) (now written) × (count < 2 ^ 50) ⌝ }
     ensures { λ r. ⌜ Adds (swept51 nodes base state writer written) 2048 out count r ⌝ }
 {
     let end = base + nodes.len() / 16;
@@ -176,9 +176,9 @@ fn entry(
     out: &mut [u16],
     count: usize,
 ) -> usize
-    requires { ⌜ Tables (now nodes) (now state) (now writer) (now written) × In (now nodes) 0 item × (0 < item) × (count < 2 ^ 50) ⌝ }
-    ensures { λ r. ⌜ Adds (seenAll (item51 item) nodes state writer written) 2048 out count r ⌝ }
-    ensures { λ _. ⌜ Cleans nodes state writer written ⌝ }
+    requires { ⌜ AccessTables (now nodes) (now state) (now writer) (now written) × In (now nodes) 0 item × (0 < item) × (count < 2 ^ 50) ⌝ }
+    ensures { λ r. ⌜ Adds (seenAccess (item51 item) nodes state writer written) 2048 out count r ⌝ }
+    ensures { λ _. ⌜ CleansWritten nodes state writer written ⌝ }
 {
     if nodes::kind(nodes, 0, item) != ENTRY {
         return count;
@@ -200,8 +200,8 @@ fn group51(
     out: &mut [u16],
     count: usize,
 ) -> usize
-    requires { ⌜ Tables (now nodes) (now state) (now writer) (now written) × (count < 2 ^ 40) ⌝ }
-    ensures { λ r. ⌜ Adds (seenAll group51 nodes state writer written) (2048 * 2048) out count r ⌝ }
+    requires { ⌜ AccessTables (now nodes) (now state) (now writer) (now written) × (count < 2 ^ 40) ⌝ }
+    ensures { λ r. ⌜ Adds (seenAccess group51 nodes state writer written) (2048 * 2048) out count r ⌝ }
 {
     let end = nodes::end(nodes, 0, 0);
     let mut total = count;
@@ -233,11 +233,11 @@ pub fn list(image: &[u8], head: Image, out: &mut [u16]) -> usize
     ensures { λ r. ⌜ Adds (λ (_ : Unit {0}). access (tree (old image))) (2 * 2048 * 2048) out 0 r ⌝ }
 {
     let nodes = nodes::area(image, head);
-    let mut state = [false; 1024];
+    let mut state = [false; Image::NAMES];
     model::mark_state(nodes, &mut state);
-    let mut writer = [false; 1024];
+    let mut writer = [false; Image::NAMES];
     mark_writers(image, head, &mut writer);
-    let mut written = [false; 1024];
+    let mut written = [false; Image::NAMES];
     let count = group50(nodes, &state, out, 0);
     group51(nodes, &state, &writer, &mut written, out, count)
 }

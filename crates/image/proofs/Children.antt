@@ -9,13 +9,24 @@ use borrow.Author.Tests.{eq-eqb, eqb-true, leb-true}
 use lib.Dec.{leb, eqb}
 use Rattle.image.specs.Pick.{pick, both, every}
 use Rattle.image.specs.Node.{kindOf, endOf}
-use Rattle.image.specs.Table.{familyOf, partAt, takes, one, opt, many, span, name, item, field, eventParam, statement, clause, param, type, intLit, mOfN, duration, expression}
-use Rattle.image.specs.Formed.{Formed}
+use Rattle.image.specs.Table.{Family, Names, Items, FieldDecls, EventParameters, Stmts, Clauses, Parameters, Types, IntLits, MofNs, Durations, Expressions, _or_, one-of, maybe-of, any-of}
+use Rattle.image.specs.Digits.{familyOf, digit, partAt, takes}
+use Rattle.image.specs.Forms.{FormsTree}
 use Rattle.image.proofs.Every.{every-at}
 use Rattle.image.proofs.Shape.{Child}
 use Rattle.image.proofs.Row.{Run, Rest, partsFrom, partsOf, sameParts, hasRow, haveRow, shape-by, inRange, ranges, Kid, kid, Kids, kids}
 
--- the kinds that have no children, that have one Name or one expression, and that have Names
+-- parts, as the packed table has them
+abbrev one : Family → ℕ
+one f = digit (one-of f)
+
+abbrev opt : Family → ℕ
+opt f = digit (maybe-of f)
+
+abbrev many : Family → ℕ
+many f = digit (any-of f)
+
+-- the kinds that have no children, that have one Name or one Expressions, and that have Names
 abbrev pub isLeaf : ℕ → Bool
 isLeaf k = pick (eqb k 6) true (pick (eqb k 12) true (pick (eqb k 22) true (pick (eqb k 23) true (both (leb 32 k) (leb k 39)))))
 
@@ -86,9 +97,9 @@ option-of low high r x = ⊎-elim (λ y. inr (last-of low high r y)) inl x
 
 -- what the first child of an After is
 periodAt : ℕ → Bool
-periodAt k = pick (takes (span 0 duration expression) (familyOf k)) (pick (eqb k 22) true (leb 32 k)) true
+periodAt k = pick (takes (one (Durations or Expressions)) (familyOf k)) (pick (eqb k 22) true (leb 32 k)) true
 
-period : {s : List ℕ} {at e : ℕ} → Child s (span 0 duration expression) at e → (kindOf s at ≡ 22) ⊎ (32 ≤ kindOf s at)
+period : {s : List ℕ} {at e : ℕ} → Child s (one (Durations or Expressions)) at e → (kindOf s at ≡ 22) ⊎ (32 ≤ kindOf s at)
 unfolding periodAt every familyOf ranges inRange
 period {s} {at} c =
     let k = kid 22 45 refl c in
@@ -100,7 +111,7 @@ period {s} {at} c =
     go true x t = inl (eqb-true _ 22 x)
     go false x t = inr (leb-true 32 _ t)
 
-module _ (s : List ℕ) (n : ℕ) (T : Formed s n) where
+module _ (s : List ℕ) (n : ℕ) (T : FormsTree s n) where
   row : (p : ℕ) → p < n → (t : ℕ → Bool) (ps : List ℕ) → haveRow t ps ≡ true → t (kindOf s p) ≡ true → Rest s ps (p + 1) (endOf s p)
   row p h t ps have is = shape-by t ps have s p is (T .node p h .children)
 
@@ -120,7 +131,7 @@ module _ (s : List ℕ) (n : ℕ) (T : Formed s n) where
       let e = leaf (p + 1) (omega arith) (ap isLeaf (kid-is c)) in
       omega arith
 
-  declared-of : (p : ℕ) → p < n → {b : ℕ} (low high : ℕ) → ranges (one name) 23 23 ≡ true → ranges (one type) 11 11 ≡ true → ranges b low high ≡ true → Child s (one name) (p + 1) (endOf s p) × (Child s (one type) (endOf s (p + 1)) (endOf s p) × ((Child s b (endOf s (endOf s (p + 1))) (endOf s p) × (endOf s (endOf s (endOf s (p + 1))) ≡ endOf s p)) ⊎ (endOf s (endOf s (p + 1)) ≡ endOf s p))) → Declared s low high p
+  declared-of : (p : ℕ) → p < n → {b : ℕ} (low high : ℕ) → ranges (one Names) 23 23 ≡ true → ranges (one Types) 11 11 ≡ true → ranges b low high ≡ true → Child s (one Names) (p + 1) (endOf s p) × (Child s (one Types) (endOf s (p + 1)) (endOf s p) × ((Child s b (endOf s (endOf s (p + 1))) (endOf s p) × (endOf s (endOf s (endOf s (p + 1))) ≡ endOf s p)) ⊎ (endOf s (endOf s (p + 1)) ≡ endOf s p))) → Declared s low high p
   declared-of p h {b} low high r t u x =
       let c = kid 23 23 r (x .0) in
       let e = name-first p h c in
@@ -135,83 +146,83 @@ module _ (s : List ℕ) (n : ℕ) (T : Formed s n) where
     -- Asset, Conserves, Mints, Burns: their Name
     pub sole-name : hasName (kindOf s p) ≡ true → Last s 23 23 (p + 1) (endOf s p)
     unfolding Rest haveRow hasRow sameParts partsOf partsFrom partAt every ranges inRange familyOf
-    sole-name is = last-of 23 23 refl (row p h hasName (one name ∷ []) refl is)
+    sole-name is = last-of 23 23 refl (row p h hasName (one Names ∷ []) refl is)
 
     -- Invariant, Limits, Denies, Guard, Stmt::Expr, Unary, Checked, Wrapping: their expression
     pub sole-expression : hasExpression (kindOf s p) ≡ true → Last s 32 45 (p + 1) (endOf s p)
     unfolding Rest haveRow hasRow sameParts partsOf partsFrom partAt every ranges inRange familyOf
-    sole-expression is = last-of 32 45 refl (row p h hasExpression (one expression ∷ []) refl is)
+    sole-expression is = last-of 32 45 refl (row p h hasExpression (one Expressions ∷ []) refl is)
 
     -- Writes, Reads: their Names
     pub names-of : hasNames (kindOf s p) ≡ true → Kids s 23 23 (endOf s p) (p + 1)
     unfolding Rest haveRow hasRow sameParts partsOf partsFrom partAt every ranges inRange familyOf
-    names-of is = kids-of 23 23 refl (row p h hasNames (many name ∷ []) refl is)
+    names-of is = kids-of 23 23 refl (row p h hasNames (many Names ∷ []) refl is)
 
     -- State: its fields
     pub state-of : kindOf s p ≡ 3 → Kids s 4 4 (endOf s p) (p + 1)
     unfolding Rest haveRow hasRow sameParts partsOf partsFrom partAt every ranges inRange familyOf
-    state-of is = kids-of 4 4 refl (row-at p h 3 (many field ∷ []) refl is)
+    state-of is = kids-of 4 4 refl (row-at p h 3 (many FieldDecls ∷ []) refl is)
 
     -- Genesis: its statements
     pub genesis-of : kindOf s p ≡ 7 → Kids s 24 28 (endOf s p) (p + 1)
     unfolding Rest haveRow hasRow sameParts partsOf partsFrom partAt every ranges inRange familyOf
-    genesis-of is = kids-of 24 28 refl (row-at p h 7 (many statement ∷ []) refl is)
+    genesis-of is = kids-of 24 28 refl (row-at p h 7 (many Stmts ∷ []) refl is)
 
     -- Assign: its target and its value; Binary: left and right
     pub two-of : hasTwo (kindOf s p) ≡ true → Pair s 32 45 32 45 p
     unfolding Rest haveRow hasRow sameParts partsOf partsFrom partAt every ranges inRange familyOf
-    two-of is = pair-of 32 45 32 45 refl refl (row p h hasTwo (one expression ∷ one expression ∷ []) refl is)
+    two-of is = pair-of 32 45 32 45 refl refl (row p h hasTwo (one Expressions ∷ one Expressions ∷ []) refl is)
 
     -- Field: its base and its Name
     pub field-of : kindOf s p ≡ 42 → Pair s 32 45 23 23 p
     unfolding Rest haveRow hasRow sameParts partsOf partsFrom partAt every ranges inRange familyOf
-    field-of is = pair-of 32 45 23 23 refl refl (row-at p h 42 (one expression ∷ one name ∷ []) refl is)
+    field-of is = pair-of 32 45 23 23 refl refl (row-at p h 42 (one Expressions ∷ one Names ∷ []) refl is)
 
     -- MofN: its two counts
     pub m-of-n : kindOf s p ≡ 13 → Pair s 12 12 12 12 p
     unfolding Rest haveRow hasRow sameParts partsOf partsFrom partAt every ranges inRange familyOf
-    m-of-n is = pair-of 12 12 12 12 refl refl (row-at p h 13 (one intLit ∷ one intLit ∷ []) refl is)
+    m-of-n is = pair-of 12 12 12 12 refl refl (row-at p h 13 (one IntLits ∷ one IntLits ∷ []) refl is)
 
     -- Contract: its Name and its items
     pub contract-of : kindOf s p ≡ 1 → Headed s 23 23 2 9 p
     unfolding Rest haveRow hasRow sameParts partsOf partsFrom partAt every ranges inRange familyOf
-    contract-of is = headed-of 23 23 2 9 refl refl (row-at p h 1 (one name ∷ many item ∷ []) refl is)
+    contract-of is = headed-of 23 23 2 9 refl refl (row-at p h 1 (one Names ∷ many Items ∷ []) refl is)
 
     -- Event: its Name and its parameters
     pub event-of : kindOf s p ≡ 5 → Headed s 23 23 6 6 p
     unfolding Rest haveRow hasRow sameParts partsOf partsFrom partAt every ranges inRange familyOf
-    event-of is = headed-of 23 23 6 6 refl refl (row-at p h 5 (one name ∷ many eventParam ∷ []) refl is)
+    event-of is = headed-of 23 23 6 6 refl refl (row-at p h 5 (one Names ∷ many EventParameters ∷ []) refl is)
 
     -- Type: its Name and its arguments
     pub type-of : kindOf s p ≡ 11 → Headed s 23 23 11 13 p
     unfolding Rest haveRow hasRow sameParts partsOf partsFrom partAt every ranges inRange familyOf
-    type-of is = headed-of 23 23 11 13 refl refl (row-at p h 11 (one name ∷ span 2 type mOfN ∷ []) refl is)
+    type-of is = headed-of 23 23 11 13 refl refl (row-at p h 11 (one Names ∷ many (Types or IntLits or MofNs) ∷ []) refl is)
 
     -- Emit: its Name and its arguments
     pub emit-of : kindOf s p ≡ 26 → Headed s 23 23 32 45 p
     unfolding Rest haveRow hasRow sameParts partsOf partsFrom partAt every ranges inRange familyOf
-    emit-of is = headed-of 23 23 32 45 refl refl (row-at p h 26 (one name ∷ many expression ∷ []) refl is)
+    emit-of is = headed-of 23 23 32 45 refl refl (row-at p h 26 (one Names ∷ many Expressions ∷ []) refl is)
 
     -- Call: its callee and its arguments
     pub call-of : kindOf s p ≡ 43 → Headed s 32 45 32 45 p
     unfolding Rest haveRow hasRow sameParts partsOf partsFrom partAt every ranges inRange familyOf
-    call-of is = headed-of 32 45 32 45 refl refl (row-at p h 43 (one expression ∷ many expression ∷ []) refl is)
+    call-of is = headed-of 32 45 32 45 refl refl (row-at p h 43 (one Expressions ∷ many Expressions ∷ []) refl is)
 
     -- FieldDecl: its Name, its Type and perhaps a default
     pub field-decl-of : kindOf s p ≡ 4 → Declared s 32 45 p
     unfolding Rest haveRow hasRow sameParts partsOf partsFrom partAt every ranges inRange familyOf
-    field-decl-of is = declared-of p h 32 45 refl refl refl (row-at p h 4 (one name ∷ one type ∷ opt expression ∷ []) refl is)
+    field-decl-of is = declared-of p h 32 45 refl refl refl (row-at p h 4 (one Names ∷ one Types ∷ opt Expressions ∷ []) refl is)
 
     -- Param: its Name, its Type and perhaps a signer
     pub param-of : kindOf s p ≡ 10 → Declared s 23 23 p
     unfolding Rest haveRow hasRow sameParts partsOf partsFrom partAt every ranges inRange familyOf
-    param-of is = declared-of p h 23 23 refl refl refl (row-at p h 10 (one name ∷ one type ∷ opt name ∷ []) refl is)
+    param-of is = declared-of p h 23 23 refl refl refl (row-at p h 10 (one Names ∷ one Types ∷ opt Names ∷ []) refl is)
 
     -- Let: its Name p + 1 and its value p + 2
     pub let-of : kindOf s p ≡ 25 → (endOf s (p + 1) ≡ p + 2) × Kid s 23 23 (p + 1) (endOf s p) × Last s 32 45 (p + 2) (endOf s p)
     unfolding Rest haveRow hasRow sameParts partsOf partsFrom partAt every ranges inRange familyOf
     let-of is =
-        let c = pair-of 23 23 32 45 refl refl (row-at p h 25 (one name ∷ one expression ∷ []) refl is) in
+        let c = pair-of 23 23 32 45 refl refl (row-at p h 25 (one Names ∷ one Expressions ∷ []) refl is) in
         let e = name-first p h (c .first) in
         (e, c .first, subst (λ (m : ℕ). Last s 32 45 m (endOf s p)) e (c .second))
 
@@ -219,14 +230,14 @@ module _ (s : List ℕ) (n : ℕ) (T : Formed s n) where
     pub after-of : kindOf s p ≡ 21 → ((kindOf s (p + 1) ≡ 22) ⊎ (32 ≤ kindOf s (p + 1))) × Kid s 22 45 (p + 1) (endOf s p) × ((endOf s (p + 1) ≡ endOf s p) ⊎ Last s 32 45 (endOf s (p + 1)) (endOf s p))
     unfolding Rest haveRow hasRow sameParts partsOf partsFrom partAt every ranges inRange familyOf
     after-of is =
-        let x = row-at p h 21 (span 0 duration expression ∷ opt expression ∷ []) refl is in
+        let x = row-at p h 21 (one (Durations or Expressions) ∷ opt Expressions ∷ []) refl is in
         (period (x .0), kid 22 45 refl (x .0), option-of 32 45 refl (x .1))
 
     -- Entry: its Name, then parameters, then clauses, then statements
     pub entry-of : kindOf s p ≡ 9 → Entry s p
     unfolding Rest haveRow hasRow sameParts partsOf partsFrom partAt every ranges inRange familyOf
     entry-of is =
-        let x = row-at p h 9 (one name ∷ many param ∷ many clause ∷ many statement ∷ []) refl is in
+        let x = row-at p h 9 (one Names ∷ many Parameters ∷ many Clauses ∷ many Stmts ∷ []) refl is in
         let c = kid 23 23 refl (x .0) in
         let e = name-first p h c in
         let ps = x .1 in

@@ -10,11 +10,11 @@ use borrow.Author.Tests.{leb-true, le-leb, lt-leb}
 use lib.Dec.{leb}
 use Rattle.image.specs.Pick.{pick, both, every}
 use Rattle.image.specs.Node.{kindOf, endOf}
-use Rattle.image.specs.Table.{familyOf, partAt, takes}
-use Rattle.image.specs.Formed.{Formed}
+use Rattle.image.specs.Digits.{familyOf, partAt, takes}
+use Rattle.image.specs.Forms.{FormsTree}
 use Rattle.image.proofs.Decide.{lt-or-ge}
 use Rattle.image.proofs.Every.{both-left, both-right, every-at}
-use Rattle.image.proofs.Packed.{family-past}
+use Rattle.image.proofs.Digits.{family-past}
 use Rattle.image.proofs.Shape.{Child}
 use Rattle.image.proofs.Row.{Run, done, next, run-within, Either3, Rest, partsFrom, partsOf, shape, no-kind, Kid, Kids, none, some, kids-within}
 use Rattle.image.proofs.Children.{Entry}
@@ -123,7 +123,7 @@ row-takes B s ps c t k = go (anyTakes ps 0) refl t
         (λ (h : 46 ≤ kindOf s c). absurd (true≢false (sym k ∙ ap (anyTakes ps) (family-past (kindOf s c) h) ∙ x)))
         (lt-or-ge (kindOf s c) 46)
 
-module _ (s : List ℕ) (n : ℕ) (T : Formed s n) (B : ℕ → Bool) (closed : leads B B ≡ true) where
+module _ (s : List ℕ) (n : ℕ) (T : FormsTree s n) (B : ℕ → Bool) (closed : leads B B ≡ true) where
   below-from : (A : ℕ → Bool) → leads A B ≡ true → (k i : ℕ) → n ≤ i + k → i < n → A (kindOf s i) ≡ true → (j : ℕ) → i < j → j < endOf s i → B (kindOf s j) ≡ true
   unfolding leads leadsAt
   below-from A lead zero i b h is j l g = absurd (omega arith)
@@ -181,7 +181,7 @@ aside-not k a b =
     let d = leb-true k 23 (both-right (leb 10 k) _ c) in
     omega arith
 
-module _ (s : List ℕ) (n : ℕ) (T : Formed s n) where
+module _ (s : List ℕ) (n : ℕ) (T : FormsTree s n) where
   -- below a statement there are only Names and expressions
   pub statement-below : (i : ℕ) → i < n → isStatement (kindOf s i) ≡ true → (j : ℕ) → i < j → j < endOf s i → inner (kindOf s j) ≡ true
   statement-below i h is j l g = only-below s n T inner inner-closed isStatement statement-leads i h is j l g

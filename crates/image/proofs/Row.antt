@@ -9,12 +9,12 @@ use borrow.Author.Tests.{lt-ltb, le-ltb, ltb-true, leb-true, eqb-true, eq-eqb}
 use lib.Dec.{ltb, leb, eqb}
 use Rattle.image.specs.Pick.{pick, both, every}
 use Rattle.image.specs.Node.{kindOf, endOf}
-use Rattle.image.specs.Table.{familyOf, partAt, takes, after, ends, rowOf}
-use Rattle.image.specs.Tree.{childrenFrom, childrenFit}
+use Rattle.image.specs.Digits.{familyOf, partAt, takes, placeAfter, ends, rowOf, childrenFrom}
+use Rattle.image.specs.Tree.{childrenFit}
 use Rattle.image.proofs.Decide.{decide, lt-or-ge}
 use Rattle.image.proofs.Every.{both-left, both-right, every-at}
 use Rattle.image.proofs.Rows.{nothing, stays, moves, skips, passes}
-use Rattle.image.proofs.Packed.{family-past}
+use Rattle.image.proofs.Digits.{family-past}
 use Rattle.image.proofs.Nest.{within}
 use Rattle.image.proofs.Shape.{Child, Walk, once, last, children-of}
 
@@ -63,12 +63,12 @@ choose (suc (suc (suc n))) l a b c = absurd (omega arith)
 module _ (s : List ℕ) where
   module _ (q e p : ℕ) (inside : q < 230) (is : p ≡ partAt q) where
     -- a part that may be left out takes the next child, or the row goes on behind it
-    optional : (at : ℕ) → 1 ≤ p % 4 → p % 4 ≤ 2 → (k : ℕ) → childrenFrom k s q at e ≡ true → (Child s p at e × ((j : ℕ) × (k ≡ suc j) × (childrenFrom j s (after q (familyOf (kindOf s at))) (endOf s at) e ≡ true))) ⊎ Walk s (q + 1) at e
+    optional : (at : ℕ) → 1 ≤ p % 4 → p % 4 ≤ 2 → (k : ℕ) → childrenFrom k s q at e ≡ true → (Child s p at e × ((j : ℕ) × (k ≡ suc j) × (childrenFrom j s (placeAfter q (familyOf (kindOf s at))) (endOf s at) e ≡ true))) ⊎ Walk s (q + 1) at e
     unfolding Walk childrenFrom
     optional at l h zero t = let z : _≡_ {A = ℕ} 0 1 = cc in absurd (omega arith)
     optional at l h (suc k) t = go (ltb at e) refl t
       where
-        go : (b : Bool) → ltb at e ≡ b → pick b (both (ltb at (endOf s at)) (childrenFrom k s (after q (familyOf (kindOf s at))) (endOf s at) e)) (both (eqb at e) (ends q)) ≡ true → (Child s p at e × ((j : ℕ) × (suc k ≡ suc j) × (childrenFrom j s (after q (familyOf (kindOf s at))) (endOf s at) e ≡ true))) ⊎ ((j : ℕ) × (childrenFrom j s (q + 1) at e ≡ true))
+        go : (b : Bool) → ltb at e ≡ b → pick b (both (ltb at (endOf s at)) (childrenFrom k s (placeAfter q (familyOf (kindOf s at))) (endOf s at) e)) (both (eqb at e) (ends q)) ≡ true → (Child s p at e × ((j : ℕ) × (suc k ≡ suc j) × (childrenFrom j s (placeAfter q (familyOf (kindOf s at))) (endOf s at) e ≡ true))) ⊎ ((j : ℕ) × (childrenFrom j s (q + 1) at e ≡ true))
         go true x u =
             let a = ltb-true at e x in
             let b = ltb-true at (endOf s at) (both-left (ltb at (endOf s at)) _ u) in
@@ -91,7 +91,7 @@ module _ (s : List ℕ) where
     run-of m zero at t = let z : _≡_ {A = ℕ} 0 1 = cc in absurd (omega arith)
     run-of m (suc k) at t = go (λ a y. run-of m k a y) (optional at (omega arith) (omega arith) (suc k) t)
       where
-        go : ((a : ℕ) → childrenFrom k s q a e ≡ true → (mid : ℕ) × Run s p mid a × Walk s (q + 1) mid e) → (Child s p at e × ((j : ℕ) × (suc k ≡ suc j) × (childrenFrom j s (after q (familyOf (kindOf s at))) (endOf s at) e ≡ true))) ⊎ Walk s (q + 1) at e → (mid : ℕ) × Run s p mid at × Walk s (q + 1) mid e
+        go : ((a : ℕ) → childrenFrom k s q a e ≡ true → (mid : ℕ) × Run s p mid a × Walk s (q + 1) mid e) → (Child s p at e × ((j : ℕ) × (suc k ≡ suc j) × (childrenFrom j s (placeAfter q (familyOf (kindOf s at))) (endOf s at) e ≡ true))) ⊎ Walk s (q + 1) at e → (mid : ℕ) × Run s p mid at × Walk s (q + 1) mid e
         go deeper (inl (c, (j, x, w))) =
             let y : childrenFrom k s q (endOf s at) e ≡ true = subst (λ (n : ℕ). childrenFrom n s q (endOf s at) e ≡ true) (let z : j ≡ k = omega arith in z) (rw (stays q (familyOf (kindOf s at)) p inside is (c .taken) m) at w) in
             let r = deeper (endOf s at) y in
@@ -116,7 +116,7 @@ module _ (s : List ℕ) where
           (λ z. let f = once s q at e (partAt q) i refl z w in (f .0, deeper (endOf s at) v (f .1)))
           (λ z.
           ⊎-elim
-          (λ (f : Child s (partAt q) at e × ((j : ℕ) × (w .0 ≡ suc j) × (childrenFrom j s (after q (familyOf (kindOf s at))) (endOf s at) e ≡ true))).
+          (λ (f : Child s (partAt q) at e × ((j : ℕ) × (w .0 ≡ suc j) × (childrenFrom j s (placeAfter q (familyOf (kindOf s at))) (endOf s at) e ≡ true))).
           let m = moves q (familyOf (kindOf s at)) (partAt q) i refl (f .0 .taken) (omega arith) in
           inl (f .0, deeper (endOf s at) v (f .1 .0, rw m at (f .1 .2))))
           (λ (f : Walk s (q + 1) at e). inr (deeper at v f))

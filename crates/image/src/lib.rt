@@ -10,9 +10,9 @@ ghost use mathlib.Core.Path.{_≡_};
 ghost use Prim.Native.Nat.{_+_, _*_, _<_, _≤_};
 ghost use lib.ListN.{length};
 ghost use Rattle.image.specs.Maxima.{maxNodes, maxNames};
-ghost use Rattle.image.specs.Node.{half, word, kindOf, nameOf, endOf, fromOf, toOf, stepOf};
+ghost use Rattle.image.specs.Node.{half, fullWord, kindOf, nameOf, endOf, fromOf, toOf, stepOf};
 ghost use Rattle.image.specs.Text.{less, offOf};
-ghost use Rattle.image.specs.Admit.{layoutOk, headerRefusal, bodyRefusal, refusal, verdict};
+ghost use Rattle.image.specs.Admit.{namesAt, textAt, layoutOk, headerRefusal, bodyRefusal, refusal, admissionOf};
 
 // An image whose header is in order: its counts.
 pub struct Image {
@@ -47,7 +47,7 @@ impl Image {
 
     // The header, refusals 1 to 4.
     pub fn read(s: &[u8]) -> Admission
-        ensures { λ r. ⌜ r ≡ verdict (headerRefusal (now (s .entry))) (now (s .entry)) ⌝ }
+        ensures { λ r. ⌜ r ≡ admissionOf (headerRefusal (now (s .entry))) (now (s .entry)) ⌝ }
     {
         if s.len() < Image::HEADER {
             return Admission::Refused(1);
@@ -72,20 +72,37 @@ impl Image {
         if Image::NAMES < m {
             return Admission::Refused(3);
         }
-        if !layout_ok(s, n, m) {
+        let image = Image { nodes: n, names: m };
+        if !layout_ok(s, image) {
             return Admission::Refused(4);
         }
-        Admission::Admitted(Image { nodes: n, names: m })
+        Admission::Admitted(image)
+    }
+
+    // The byte at which the names start: the nodes end there.
+    pub fn names_at(self) -> usize
+        requires { ⌜ self .nodes ≤ maxNodes ⌝ }
+        ensures { λ r. ⌜ r ≡ namesAt (self .nodes) ⌝ }
+    {
+        Image::HEADER + 16 * self.nodes
+    }
+
+    // The byte at which the text starts: the names end there.
+    pub fn text_at(self) -> usize
+        requires { ⌜ (self .nodes ≤ maxNodes) × (self .names ≤ maxNames) ⌝ }
+        ensures { λ r. ⌜ r ≡ textAt (self .nodes) (self .names) ⌝ }
+    {
+        self.names_at() + 2 * (self.names + 1)
     }
 }
 
-// Whether the four offsets of the header are those of n nodes and m names.
-fn layout_ok(s: &[u8], n: usize, m: usize) -> bool
-    requires { ⌜ (24 ≤ length (now s)) × (n ≤ maxNodes) × (m ≤ maxNames) ⌝ }
-    ensures { λ r. ⌜ r ≡ layoutOk (now (s .entry)) n m ⌝ }
+// Whether the four offsets of the header are those of an image.
+fn layout_ok(s: &[u8], image: Image) -> bool
+    requires { ⌜ (24 ≤ length (now s)) × (image .nodes ≤ maxNodes) × (image .names ≤ maxNames) ⌝ }
+    ensures { λ r. ⌜ r ≡ layoutOk (now (s .entry)) (image .nodes) (image .names) ⌝ }
 {
-    let names = Image::HEADER + 16 * n;
-    let text = names + 2 * (m + 1);
+    let names = image.names_at();
+    let text = image.text_at();
     if word_at(s, 8) != Image::HEADER {
         return false;
     }
@@ -120,7 +137,7 @@ pub fn half_at(s: &[u8], k: usize) -> usize
 // The u32 at byte k.
 fn word_at(s: &[u8], k: usize) -> usize
     requires { ⌜ k + 3 < length (now s) ⌝ }
-    ensures { λ r. ⌜ (r ≡ word (now (s .entry)) k) × (r < 4294967296) ⌝ }
+    ensures { λ r. ⌜ (r ≡ fullWord (now (s .entry)) k) × (r < 4294967296) ⌝ }
 {
     half_at(s, k) + 65536 * half_at(s, k + 2)
 }
@@ -241,15 +258,15 @@ fn judge(nodes: &[u8], names: &[u8], text: &[u8], n: usize, m: usize) -> usize
 
 // Every byte slice is admitted, or refused by number.
 pub fn admit(s: &[u8]) -> Admission
-    ensures { λ r. ⌜ r ≡ verdict (refusal (now (s .entry))) (now (s .entry)) ⌝ }
+    ensures { λ r. ⌜ r ≡ admissionOf (refusal (now (s .entry))) (now (s .entry)) ⌝ }
 {
     match Image::read(s) {
         Admission::Refused(r) => Admission::Refused(r),
         Admission::Admitted(image) => {
             let n = image.nodes;
             let m = image.names;
-            let a = Image::HEADER + 16 * n;
-            let b = a + 2 * (m + 1);
+            let a = image.names_at();
+            let b = image.text_at();
             let r = judge(&s[Image::HEADER..a], &s[a..b], &s[b..], n, m);
             if r != 0 {
                 return Admission::Refused(r);

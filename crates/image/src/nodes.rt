@@ -19,8 +19,7 @@ ghost use mathlib.Core.Bool.{true};
 ghost use lib.ListN.{length};
 ghost use Rattle.image.specs.Maxima.{maxNodes, maxNames};
 ghost use Rattle.image.specs.Node.{kindOf, endOf};
-ghost use Rattle.image.specs.Table.{rowOf};
-ghost use Rattle.image.specs.Packed.{restAt, kindTable};
+ghost use Rattle.image.specs.Digits.{rowOf, restAt, kindTable};
 ghost use Rattle.image.specs.Text.{namesOk};
 ghost use Rattle.image.specs.Tree.{childrenFit, carries, nameFits, nodeOk, treeOk, depthOk, usedIn, usedOk};
 

@@ -1,8 +1,7 @@
 // The kinds and their children: document 01's table, and one step along a row of it.
 ghost use mathlib.Core.Path.{_≡_};
 ghost use Prim.Native.Nat.{ℕ};
-ghost use Rattle.image.specs.Table.{takes, after, ends};
-ghost use Rattle.image.specs.Packed.{restAt, kindTable, kindFacts};
+ghost use Rattle.image.specs.Digits.{takes, placeAfter, ends, restAt, kindTable, kindFacts};
 
 // The families of kinds that the rows speak of. 23:
 const NAME: usize = 1;
@@ -194,7 +193,7 @@ fn taken(part: usize, f: usize) -> bool
 
 // What is left of a row after one more child, of family f.
 pub fn next(row: usize, f: usize) -> usize
-    ensures { λ r. ⌜ ((q : ℕ) → row ≡ restAt q → r ≡ restAt (after q f)) ⌝ }
+    ensures { λ r. ⌜ ((q : ℕ) → row ≡ restAt q → r ≡ restAt (placeAfter q f)) ⌝ }
 {
     let mut rest = row;
     while 0 < rest {

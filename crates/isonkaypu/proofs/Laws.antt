@@ -5,16 +5,16 @@ use mathlib.Core.List.{List, [], _∷_, _++_}
 use native.Mathlib.Omega.{arith}
 use lib.ListN.{set}
 use lib.Seq.{sets}
-use Rattle.rules.specs.Answers.{Answer, Reply, Listing}
+use Rattle.rules.specs.Answers.{Answer, NameReply, ListReply}
 use Rattle.isonkaypu.specs.Plain.{Gives, row, Says, Tells}
 
 pub gives-as : {a b : Answer} {n p f t : ℕ} → a ≡ b → Gives a n p f t → Gives b n p f t
 gives-as e g = rw e at g
 
-pub says-as : {a b : Reply} {n p : ℕ} → a ≡ b → Says a n p → Says b n p
+pub says-as : {a b : NameReply} {n p : ℕ} → a ≡ b → Says a n p → Says b n p
 says-as e g = rw e at g
 
-pub tells-as : {a b : Listing} {n p : ℕ} → a ≡ b → Tells a n p → Tells b n p
+pub tells-as : {a b : ListReply} {n p : ℕ} → a ≡ b → Tells a n p → Tells b n p
 tells-as e g = rw e at g
 
 pub stored : (o : List ℕ) (at a b c d : ℕ) → set (set (set (set o at a) (at + 1) b) (at + 2) c) (at + 3) d ≡ sets o at (a ∷ b ∷ c ∷ d ∷ [])

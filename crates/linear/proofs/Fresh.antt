@@ -1,54 +1,53 @@
--- Tables and arrays as they are made, and the marks of the words that only read.
-use Prim.Native.Nat.{ℕ, _+_, _*_, _-_, _<_, _≤_}
-use mathlib.Core.Path.{_≡_, refl, ap, _∙_, sym}
-use mathlib.Core.Bool.{Bool, true, false}
-use mathlib.Core.List.{List, [], _∷_}
+-- Clean tables: fresh ones, which the pass is lent; others in their stead.
+use Prim.Native.Nat.{ℕ, _+_, _*_, _≤_}
+use mathlib.Core.Bool.{Bool, false}
+use mathlib.Core.List.{List}
 use native.Mathlib.Omega.{arith}
-use borrow.Author.Tests.{ltb-true, ltb-false}
-use lib.Dec.{ltb}
-use lib.ListN.{length, getD, replicate, length-replicate, getD-replicate, List·getD-eq-default}
-use Rattle.image.specs.Text.{slice}
-use Rattle.rules.specs.Sweep.{either, same, hasWord}
-use Rattle.rules.specs.Words.{Q-Asset, split, mint, get, contains, has-word}
-use Rattle.linear_nodes.specs.Marks.{Marks}
-use Rattle.linear_nodes.proofs.Names.{marks-as}
-use Rattle.linear_model.specs.Found.{Header, Numbered}
-use Rattle.linear_model.proofs.Heads.{view, fresh}
-use Rattle.occurrences.specs.Counting.{isReader}
-use Rattle.rows.specs.Tracked.{Blank}
-use Rattle.linear.specs.Entry.{Begun, Store, Unflagged}
+use lib.ListN.{replicate, length-replicate, getD-replicate}
+use Rattle.image.specs.Admit.{nodeCount}
+use Rattle.rules.specs.Words.{Q-Asset, split, mint}
+use Rattle.nodes.specs.Shown.{Shown}
+use Rattle.nodes.specs.Marks.{Marks}
+use Rattle.nodes.proofs.Names.{marks-none}
+use Rattle.nodes.proofs.Heads.{view-of, root-of}
+use Rattle.names.specs.Found.{Numbered}
+use Rattle.places.proofs.Noting.{places-none}
+use Rattle.linear_occurrences.specs.Counted.{Clear, isReader}
+use Rattle.linear_tracked.specs.declared.Words.{Words}
+use Rattle.linear_rows.specs.Tallies.{Blank}
+use Rattle.linear.specs.Seen.{LinearTables, Clean}
 
-blank : Blank 1024 1024 (replicate 1024 0)
-blank = record { size-is = length-replicate {A = ℕ} 1024 0; zero = λ r h. getD-replicate {A = ℕ} 1024 r 0 0 h }
+-- no flag is set from a later node on
+pub clear-later : {p q : ℕ} {r : List Bool} → p ≤ q → Clear p r → Clear q r
+clear-later l C = record { size = C .size; flag = λ i g h. C .flag i (omega arith) h }
 
-pub stored : Store (replicate 511 0) (replicate 511 0) (replicate 511 0) (replicate 511 0) (replicate 511 0) (replicate 1024 0) (replicate 1024 0)
-stored = record {
-  names-size = length-replicate {A = ℕ} 511 0;
-  places-size = length-replicate {A = ℕ} 511 0;
-  marks-size = length-replicate {A = ℕ} 511 0;
-  counts-size = length-replicate {A = ℕ} 511 0;
-  seconds-size = length-replicate {A = ℕ} 511 0;
-  first-blank = blank;
-  last-blank = blank;
+pub clear-all : Clear 1 (replicate 2048 false)
+clear-all = record { size = length-replicate {A = Bool} 2048 false; flag = λ i g h. getD-replicate 2048 i false false h }
+
+pub blank-all : Blank (replicate 1533 0)
+blank-all = record {
+  size = length-replicate {A = ℕ} 1533 0;
+  marks = λ r l. getD-replicate 1533 (3 * r) 0 0 (omega arith);
+  counts = λ r l. getD-replicate 1533 (3 * r + 1) 0 0 (omega arith);
+  seconds = λ r l. getD-replicate 1533 (3 * r + 2) 0 0 (omega arith);
 }
 
-pub unflagged : Unflagged (replicate 2048 false) 1
-unflagged = record { size = length-replicate 2048 false; clear = λ j h. go j (ltb j 2048) refl }
-  where
-    go : (j : ℕ) (c : Bool) → ltb j 2048 ≡ c → getD (replicate 2048 false) j false ≡ false
-    go j true c = getD-replicate 2048 j false false (ltb-true j 2048 c)
-    go j false c = let g = ltb-false j 2048 c in let z = length-replicate 2048 false in List·getD-eq-default (replicate 2048 false) false {n = j} (omega arith)
+abbrev pub tables-of : {s nodes : List ℕ} {words : Words} {reader : List Bool} (S : Shown s nodes 0 (nodeCount s)) → Numbered s Q-Asset (words .asset) × Numbered s split (words .split) × Numbered s mint (words .mint)
+    → (Marks s (λ w. false) (replicate 1024 false) → Marks s isReader reader) → LinearTables nodes words reader (replicate 1024 false) (replicate 511 0) (replicate 1024 0) (replicate 1024 0) (replicate 1533 0)
+tables-of {s} S N f = record {
+  known = record { view = view-of S; asset-number = N .0; split-number = N .1; mint-number = N .2 };
+  root = root-of S;
+  reader-marks = f (marks-none s (S .admitted));
+  clean = record {
+    size = length-replicate {A = ℕ} 511 0;
+    burned-none = marks-none s (S .admitted);
+    first-none = places-none s (S .admitted);
+    last-none = places-none s (S .admitted);
+    blank = blank-all;
+  };
+}
 
-pub readers-marked : {s : List ℕ} {r : List Bool} → Marks s (λ v. either (either (either false (same v get)) (same v contains)) (same v has-word)) r → Marks s isReader r
-unfolding hasWord
-readers-marked M = marks-as (λ v. grouped (same v get) (same v contains) (same v has-word)) M
-  where
-    grouped : (a b c : Bool) → either (either a b) c ≡ either a (either b (either c false))
-    grouped true b c = refl
-    grouped false true c = refl
-    grouped false false true = refl
-    grouped false false false = refl
-
-abbrev pub begun : {s : List ℕ} {n m q sp mi : ℕ} {reader : List Bool} (H : Header s n m) → Numbered s Q-Asset q → Numbered s split sp → Numbered s mint mi → Marks s isReader reader
-    → Begun (slice s 24 (24 + 16 * n)) 0 q sp mi reader (replicate 1024 false)
-begun H a b c M = record { view = view H; asset-number = a; split-number = b; mint-number = c; reader-marks = M; none-marked = fresh H }
+-- the tables with others that are clean
+abbrev pub cleaned : {nodes : List ℕ} {words : Words} {reader burned burned′ : List Bool} {places first last tallies places′ first′ last′ tallies′ : List ℕ} (T : LinearTables nodes words reader burned places first last tallies)
+    → Clean (T .known .view .image) burned′ places′ first′ last′ tallies′ → LinearTables nodes words reader burned′ places′ first′ last′ tallies′
+cleaned T C = record { known = T .known; root = T .root; reader-marks = T .reader-marks; clean = C }

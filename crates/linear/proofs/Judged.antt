@@ -1,27 +1,23 @@
--- An entry's records: the 60s, then what the rows' cells say, row by row.
-use Prim.Native.Nat.{ℕ, zero, suc, _+_, _-_, _<_, _≤_}
+-- An entry's records: the 60s, then what the rows' cells say, row by row; and the rows blank again.
+use Prim.Native.Nat.{ℕ, zero, suc, _+_, _*_, _-_, _<_, _≤_}
 use mathlib.Core.Path.{_≡_, refl, ap, _∙_, sym}
 use mathlib.Core.Bool.{Bool, true, false}
 use mathlib.Core.List.{List, [], _∷_, _++_, append-nil}
 use mathlib.Core.Logic.{_⊎_, inl, inr, ⊎-elim}
 use native.Mathlib.Omega.{arith}
-use native.Mathlib.Numerals.{add-one}
-use lib.Dec.{eqb, ltb}
+use borrow.Author.Tests.{lt-ltb, le-ltb, ltb-false}
+use lib.Dec.{ltb}
 use lib.ListN.{length, getD, length-append, List·getD-append}
 use lib.Seq.{getD-append-seam}
+use Rattle.image.specs.Pick.{pick}
 use Rattle.rules.specs.Sweep.{run, keep, has}
-use Rattle.rules.specs.Tree.{Tree, entry, «let», param-let}
-use Rattle.rules.specs.Vocabulary.{Rec, rec, only, alone, Below, below}
-use Rattle.rules.specs.Linear.{isRow, placeOf, marks, uses, second, judged, rowRule, rule60, linearEntry}
-use Rattle.linear_records.specs.Records.{Laid}
-use Rattle.linear_records.proofs.Laws.{laid-join, laid-as}
-use Rattle.linear_records.proofs.Sweep.{run-next}
-use Rattle.linear_nodes.specs.Shown.{View, In, treeOf}
-use Rattle.rows.specs.Tracked.{Rows}
-use Rattle.rows.specs.Ruled.{ruled, ruledAt}
-use Rattle.tracked.specs.Held.{rowsOf, Held}
-use Rattle.tallies.specs.Tally.{hits, burnHit, useHit}
-use Rattle.linear.proofs.Select.{run-same, marks-are, uses-are}
+use Rattle.rules.specs.Tree.{Tree, tree, param-let}
+use Rattle.rules.specs.Vocabulary.{Rec, alone, below}
+use Rattle.rules.specs.Linear.{isRow, marks, uses, second, judged, rowRule}
+use Rattle.records.proofs.Sweep.{run-next, run-same}
+use Rattle.linear_tracked.specs.Rows.{rowsOf, Rows}
+use Rattle.linear_rows.specs.Tallies.{Tallied, Blank, marksAt, countAt, secondAt, judgedAt}
+use Rattle.linear.specs.Seen.{rowMarks, rowUses}
 
 -- a range in which each number gives nothing, or what f gives of it, is f of the numbers that give something
 index-run : {A : Type 0} (F : ℕ → List A) (X : ℕ → List ℕ) (f : ℕ → List A) (a n : ℕ) → ((i : ℕ) → ((F i ≡ []) × (X i ≡ [])) ⊎ ((F i ≡ f i) × (X i ≡ i ∷ [])))
@@ -45,35 +41,44 @@ index-run {A} F X f a (suc n) h =
         ∙ sym (run-next (λ r. f (getD (xs ++ y ∷ []) r 0)) 0 (length xs))
         ∙ ap (run (λ r. f (getD (xs ++ y ∷ []) r 0)) 0) (sym (length-append xs (y ∷ [])))
 
-pub rows-run : (t : Tree) (e : ℕ) (f : ℕ → List Rec) → below t param-let e (λ x. keep (isRow t x) f x) ≡ run (λ r. f (getD (rowsOf t e) r 0)) 0 (length (rowsOf t e))
+rows-run : (t : Tree) (e : ℕ) (f : ℕ → List Rec) → run (λ r. f (getD (rowsOf e t) r 0)) 0 (length (rowsOf e t)) ≡ below t param-let e (λ x. keep (isRow t x) f x)
 unfolding below keep
-rows-run t e f = index-run _ _ f (suc e) (t .end e - suc e) (λ i. go i (has (t .kind i) param-let) (isRow t i) refl)
+rows-run t e f = sym (index-run _ _ f (suc e) (t .end e - suc e) (λ i. go i (has (t .kind i) param-let) (isRow t i) refl))
   where
     go : (i : ℕ) (k q : Bool) → isRow t i ≡ q → ((keep k (λ x. keep (isRow t x) f x) i ≡ []) × (keep k (λ x. keep (isRow t x) alone x) i ≡ [])) ⊎ ((keep k (λ x. keep (isRow t x) f x) i ≡ f i) × (keep k (λ x. keep (isRow t x) alone x) i ≡ i ∷ []))
     go i true true d = inr (ap (λ (b : Bool). keep b f i) d, ap (λ (b : Bool). keep b alone i) d)
     go i true false d = inl (ap (λ (b : Bool). keep b f i) d, ap (λ (b : Bool). keep b alone i) d)
     go i false q d = inl (refl, refl)
 
-module _ {part : List ℕ} {b e : ℕ} (W : View part b) (E : Below (treeOf W) entry 0 e) (i : In part b e) (ends : e < treeOf W .end e) {n : ℕ} {names places first last : List ℕ} (R : Rows n names first last) (H : Held (W .image) (rowsOf (treeOf W) e) n names places)
-    (ms cs ss : List ℕ)
-    (C : (r : ℕ) → r < n
-    → (getD ms r 0 ≡ length (hits (burnHit (W .image) e first r) (e + 1) (treeOf W .end e)))
-    × (getD cs r 0 ≡ length (hits (useHit (W .image) e last r) (e + 1) (treeOf W .end e)))
-    × (getD ss r 0 ≡ second (hits (useHit (W .image) e last r) (e + 1) (treeOf W .end e)))) where
-  row-is : (r : ℕ) → r < n → ruledAt places ms cs ss r ≡ rowRule (treeOf W) e (getD (rowsOf (treeOf W) e) r 0)
+module _ {s : List ℕ} (e : ℕ) {n : ℕ} {places first last tallies : List ℕ} (R : Rows s (rowsOf e (tree s)) n places first last) (C : Tallied (rowMarks (tree s) e) (rowUses (tree s) e) tallies) where
+  row-judged : (r : ℕ) → r < n → judgedAt places tallies r ≡ rowRule (tree s) e (getD (rowsOf e (tree s)) r 0)
   unfolding rowRule judged
-  row-is r l =
-      let c = C r l in
-      let a : getD ms r 0 ≡ length (marks (treeOf W) e (getD (rowsOf (treeOf W) e) r 0)) = c .0 ∙ ap length (sym (marks-are W E i R H r l ends)) in
-      let d : getD cs r 0 ≡ length (uses (treeOf W) e (getD (rowsOf (treeOf W) e) r 0)) = c .1 ∙ ap length (sym (uses-are W E i R H r l ends)) in
-      let g : getD ss r 0 ≡ second (uses (treeOf W) e (getD (rowsOf (treeOf W) e) r 0)) = c .2 ∙ ap second (sym (uses-are W E i R H r l ends)) in
-      rw (H .place-of r l, a, d, g) refl
+  row-judged r l =
+      let k = R .few in
+      let h : ltb r (length (rowsOf e (tree s))) ≡ true = lt-ltb r _ (let z = R .count in omega arith) in
+      let a : marksAt tallies r ≡ length (marks (tree s) e (getD (rowsOf e (tree s)) r 0)) = C .marks r (omega arith) ∙ ap (λ (b : Bool). length (pick b (marks (tree s) e (getD (rowsOf e (tree s)) r 0)) [])) h in
+      let d : countAt tallies r ≡ length (uses (tree s) e (getD (rowsOf e (tree s)) r 0)) = C .counts r (omega arith) ∙ ap (λ (b : Bool). length (pick b (uses (tree s) e (getD (rowsOf e (tree s)) r 0)) [])) h in
+      let g : secondAt tallies r ≡ second (uses (tree s) e (getD (rowsOf e (tree s)) r 0)) = C .seconds r (omega arith) ∙ ap (λ (b : Bool). second (pick b (uses (tree s) e (getD (rowsOf e (tree s)) r 0)) [])) h in
+      rw (R .place-of r l, a, d, g) refl
 
-  pub entry-laid : {o o₁ o₂ : List ℕ} {k k₁ k₂ : ℕ} → Laid o k (below (treeOf W) «let» e (rule60 (treeOf W) e)) o₁ k₁ → Laid o₁ k₁ (run (ruledAt places ms cs ss) 0 n) o₂ k₂ → Laid o k (linearEntry (treeOf W) e) o₂ k₂
-  unfolding linearEntry
-  entry-laid p q =
-      laid-join p
-      (laid-as
-      (run-same (ruledAt places ms cs ss) (λ r. rowRule (treeOf W) e (getD (rowsOf (treeOf W) e) r 0)) 0 n (λ r g h. row-is r (omega arith))
-      ∙ ap (run (λ r. rowRule (treeOf W) e (getD (rowsOf (treeOf W) e) r 0)) 0) (H .count) ∙ sym (rows-run (treeOf W) e (rowRule (treeOf W) e)))
-      q)
+  -- 61 and 62, rows in order
+  pub rows-judged : run (judgedAt places tallies) 0 n ≡ below (tree s) param-let e (λ x. keep (isRow (tree s) x) (rowRule (tree s) e) x)
+  rows-judged =
+      run-same (judgedAt places tallies) (λ r. rowRule (tree s) e (getD (rowsOf e (tree s)) r 0)) 0 n (λ r g h. row-judged r (omega arith))
+      ∙ ap (run (λ r. rowRule (tree s) e (getD (rowsOf e (tree s)) r 0)) 0) (R .count) ∙ rows-run (tree s) e (rowRule (tree s) e)
+
+  -- the rows past the last one hold nothing, so all are blank when those before are
+  pub blanked : {tallies′ : List ℕ} → length tallies′ ≡ length tallies → ((i : ℕ) → getD tallies′ i 0 ≡ pick (ltb i (3 * n)) 0 (getD tallies i 0)) → Blank tallies′
+  blanked {tallies′} z f = record {
+    size = z ∙ C .size;
+    marks = λ r l. cell (3 * r) r (omega arith) (omega arith) (λ b. C .marks r l ∙ ap (λ (c : Bool). length (pick c (marks (tree s) e (getD (rowsOf e (tree s)) r 0)) [])) b);
+    counts = λ r l. cell (3 * r + 1) r (omega arith) (omega arith) (λ b. C .counts r l ∙ ap (λ (c : Bool). length (pick c (uses (tree s) e (getD (rowsOf e (tree s)) r 0)) [])) b);
+    seconds = λ r l. cell (3 * r + 2) r (omega arith) (omega arith) (λ b. C .seconds r l ∙ ap (λ (c : Bool). second (pick c (uses (tree s) e (getD (rowsOf e (tree s)) r 0)) [])) b);
+  }
+    where
+      cell : (i r : ℕ) → 3 * r ≤ i → i < 3 * r + 3 → (ltb r (length (rowsOf e (tree s))) ≡ false → getD tallies i 0 ≡ 0) → getD tallies′ i 0 ≡ 0
+      cell i r l h g = go (ltb i (3 * n)) refl
+        where
+          go : (b : Bool) → ltb i (3 * n) ≡ b → getD tallies′ i 0 ≡ 0
+          go true q = f i ∙ ap (λ (b : Bool). pick b 0 (getD tallies i 0)) q
+          go false q = f i ∙ ap (λ (b : Bool). pick b 0 (getD tallies i 0)) q ∙ g (le-ltb r _ (let k = ltb-false i (3 * n) q in let m = R .count in omega arith))

@@ -1,7 +1,5 @@
-pub mod Counted
 pub mod Select
 pub mod Judged
-pub mod Placed
-pub mod Walk
+pub mod Lent
+pub mod Between
 pub mod Fresh
-pub mod Bridge

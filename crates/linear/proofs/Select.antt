@@ -1,275 +1,190 @@
--- The lists of a row's marks and uses are the hits of the tables of first and last rows.
-use Prim.Native.Nat.{ℕ, zero, suc, _+_, _-_, _<_, _≤_}
-use mathlib.Core.Path.{_≡_, refl, ap, _∙_, sym, subst}
+-- The rows that the tables by name note are those of the rules: marks go to the first row of a name, counted occurrences to the last ("Burn mark", "Counted occurrences" of document 01).
+use Prim.Native.Nat.{ℕ, suc, _+_, _<_, _≤_}
+use mathlib.Core.Path.{_≡_, refl, ap, _∙_, sym}
 use mathlib.Core.Bool.{Bool, true, false, not, true≢false}
-use mathlib.Core.List.{List, [], _∷_, List·Memᴰ, List·Memᴰ·head, List·Memᴰ·eq-of-singleton}
-use mathlib.Core.Logic.{_⊎_, inl, inr, ⊎-elim}
+use mathlib.Core.List.{List, []}
+use mathlib.Core.Logic.{inl, inr}
 use native.Mathlib.Omega.{arith}
-use native.Mathlib.Numerals.{add-one}
-use borrow.Author.Tests.{eq-eqb, ne-eqb, eqb-true, eqb-false, ltb-true, ltb-false}
+use borrow.Author.Tests.{ne-eqb, ltb-true, ltb-false}
 use lib.Dec.{eqb, ltb}
 use lib.ListN.{length, getD}
 use Rattle.image.specs.Pick.{pick, both}
-use Rattle.image.specs.Admit.{nodeCount, nameCount}
-use Rattle.image.proofs.Marked.{eq-or-ne}
-use Rattle.rules.specs.Sweep.{run, either, also, keep, has, same}
-use Rattle.rules.specs.Tree.{Tree, tree, entry, param, ident, param-let}
-use Rattle.rules.specs.Vocabulary.{alone, Below, below, named}
-use Rattle.rules.specs.Linear.{isRow, isEarlier, isLater, marks, uses, isBurned, isCounted}
-use Rattle.rules.proofs.Reflect.{Tells, tells-both, tells-ltb, tells-named, tells-has, tells-same, tells-someBelow}
-use Rattle.linear_records.proofs.Sweep.{run-later}
-use Rattle.linear_nodes.specs.Shown.{View, In, treeOf, number, word}
-use Rattle.linear_nodes.proofs.Names.{in-range, same-not, both-true, both-false}
-use Rattle.linear_nodes.proofs.Parts.{inside}
-use Rattle.linear_nodes.proofs.Shapes.{within}
-use Rattle.rows.specs.Tracked.{Points, Firsts, Lasts, Rows}
-use Rattle.tracked.specs.Held.{rowsOf, Held}
-use Rattle.tracked.proofs.Lists.{rising-at, tells-self, not-so, run-none}
-use Rattle.tracked.proofs.Alias.{rows-rise, row-at, at-row, numbers-same, row-name, name-below}
-use Rattle.tallies.specs.Tally.{hits, burnHit, useHit}
+use Rattle.rules.specs.Sweep.{also, keep, has, same}
+use Rattle.rules.specs.Tree.{Tree, param, ident}
+use Rattle.rules.specs.Vocabulary.{alone, below, named}
+use Rattle.rules.specs.Linear.{isEarlier, isLater, isBurned, isCounted, marks, uses}
+use Rattle.rules.proofs.Reflect.{tells-same, tells-named}
+use Rattle.records.proofs.Sweep.{run-empty, run-same}
+use Rattle.nodes.specs.Shown.{treeOf}
+use Rattle.linear_occurrences.specs.Counted.{Counting}
+use Rattle.linear_occurrences.proofs.Entry.{uses-are}
+use Rattle.linear_tracked.specs.Rows.{rowsOf, firstRow, lastRow}
+use Rattle.linear_tracked.proofs.Noted.{FirstPasses, first-passes, LastPasses, last-passes, Passes}
+use Rattle.linear_tracked.proofs.Reading.{first-of-name, last-of-name}
+use Rattle.linear_rows.specs.Tallies.{burnsOn, usesOn}
+use Rattle.linear.specs.Seen.{rowMarks, rowUses}
 
-pub run-same : {A : Type 0} (f g : ℕ → List A) (a n : ℕ) → ((i : ℕ) → a ≤ i → i < a + n → f i ≡ g i) → run f a n ≡ run g a n
-unfolding run
-run-same f g a zero h = refl
-run-same f g a (suc n) h = rw (run-same f g a n (λ i x y. h i x (omega arith)), h (a + n) (omega arith) (omega arith))
-
-range-same : {A : Type 0} (f g : ℕ → List A) (e u : ℕ) → ((i : ℕ) → e < i → i < u → f i ≡ g i) → run f (suc e) (u - suc e) ≡ run g (e + 1) (u - (e + 1))
-range-same {A} f g e u h = run-same f g (suc e) (u - suc e) (λ i x y. h i x (omega arith)) ∙ ap (λ (j : ℕ). run g j (u - j)) (sym (add-one e))
-
-run-empty : {A : Type 0} (f : ℕ → List A) (a u : ℕ) → a ≤ u → ((i : ℕ) → a ≤ i → i < u → f i ≡ []) → run f a (u - a) ≡ []
-run-empty f a u l h = run-later f a u u l (omega arith) h ∙ run-none f u u refl
-
-both-swap : (a b : Bool) → both a b ≡ both b a
-both-swap true b = sym (both-true b)
-both-swap false b = sym (both-false b)
-
-keep-twice : (a : Bool) (b : ℕ → Bool) (i : ℕ) → keep a (λ j. keep (b j) alone j) i ≡ keep (both (b i) a) alone i
+-- three tests, one after another, in either order
+drop : (a : Bool) (B C : ℕ → Bool) (y : ℕ) → C y ≡ false → keep a (λ z. keep (B z) (λ u. keep (C z) alone u) z) y ≡ []
 unfolding keep
-keep-twice true b i = ap (λ (x : Bool). keep x alone i) (sym (both-true (b i)))
-keep-twice false b i = sym (ap (λ (x : Bool). keep x alone i) (both-false (b i)))
-
-keep-as : {a b : Bool} (i : ℕ) → a ≡ b → keep a alone i ≡ keep b alone i
-keep-as i e = ap (λ (x : Bool). keep x alone i) e
-
-side : (x y : ℕ) → (x < y) ⊎ ((x ≡ y) ⊎ (y < x))
-side x y = ⊎-elim (λ (e : x ≡ y). inr (inl e)) (λ (n : x ≡ y → ⊥). go n (ltb x y) refl) (eq-or-ne x y)
+drop false B C y e = refl
+drop true B C y e = go (B y)
   where
-    go : (x ≡ y → ⊥) → (b : Bool) → ltb x y ≡ b → (x < y) ⊎ ((x ≡ y) ⊎ (y < x))
-    go n true e = inl (ltb-true x y e)
-    go n false e = let g = ltb-false x y e in inr (inr (omega (arith, n)))
+    go : (b : Bool) → keep b (λ u. keep (C y) alone u) y ≡ []
+    go true = rw e
+    go false = refl
 
-module _ {part : List ℕ} {b e : ℕ} (W : View part b) (E : Below (treeOf W) entry 0 e) (i : In part b e) {n : ℕ} {names places first last : List ℕ} (R : Rows n names first last) (H : Held (W .image) (rowsOf (treeOf W) e) n names places) (r : ℕ) (l : r < n) where
-  abbrev t : Tree
-  t = treeOf W
+join : (a : Bool) (B C D : ℕ → Bool) (y : ℕ) → C y ≡ D y → keep a (λ z. keep (B z) (λ u. keep (C z) alone u) z) y ≡ keep a (λ z. keep (both (D z) (B z)) alone z) y
+unfolding keep
+join false B C D y e = refl
+join true B C D y e = rw e (go (B y) (D y))
+  where
+    go : (b d : Bool) → keep b (λ u. keep d alone u) y ≡ keep (both d b) alone y
+    go true true = refl
+    go true false = refl
+    go false true = refl
+    go false false = refl
 
-  abbrev xs : List ℕ
-  xs = rowsOf (treeOf W) e
+swap : (a : Bool) (B C D : ℕ → Bool) (y : ℕ) → C y ≡ D y → keep a (λ z. keep (B z) (λ u. keep (C z) alone u) z) y ≡ keep (also a B y) (λ i. keep (D i) alone i) y
+unfolding keep
+swap false B C D y e = refl
+swap true B C D y e = rw e (go (B y))
+  where
+    go : (b : Bool) → keep b (λ u. keep (D y) alone u) y ≡ keep b (λ i. keep (D i) alone i) y
+    go true = refl
+    go false = refl
 
+not-not : (b : Bool) → not (not b) ≡ b
+not-not true = refl
+not-not false = refl
+
+-- A table F notes row r for a word exactly when that is the word of row r and no other row takes it
+module _ (t : Tree) (e r : ℕ) (F : List ℕ → ℕ) (E : Bool) (mine : (w : List ℕ) → F w ≡ r + 1 → named t w (getD (rowsOf e t) r 0) ≡ true)
+    (d : E ≡ not (eqb (F (t .text (getD (rowsOf e t) r 0 + 1))) (r + 1))) where
   abbrev x : ℕ
-  x = getD (rowsOf (treeOf W) e) r 0
+  x = getD (rowsOf e t) r 0
 
-  abbrev m : ℕ
-  m = getD names r 0
-
-  in-list : (k : ℕ) → k < n → k < length xs
-  in-list k h = let c = H .count in omega arith
-
-  row-of : (k : ℕ) → k < n → Below t param-let e (getD xs k 0)
-  row-of k h = row-at t e k (in-list k h) .0
-
-  m-low : m - 1 < 1024
-  m-low = let g = R .ranged r l in omega arith
-
-  m-back : m ≡ m - 1 + 1
-  m-back = let g = R .ranged r l in omega arith
-
-  -- the row of another node of this name; the text of another row of this name
-  other : (z : ℕ) → Below t param-let e z → isRow t z ≡ true → t .text (z + 1) ≡ t .text (x + 1) → (k : ℕ) × (k < n) × (getD xs k 0 ≡ z) × (getD names k 0 ≡ m - 1 + 1)
-  other z B q d =
-      let f = at-row t e z B q in
-      let c = H .count in
-      let g = f .1 in
-      let h : f .0 < n = omega arith in (
-        f .0,
-        h,
-        f .2,
-        H .name-of (f .0) h ∙ ap (λ (y : ℕ). number (W .image) (y + 1)) (f .2)
-            ∙ numbers-same W (z + 1) (x + 1) (name-below W E i B) (name-below W E i (row-of r l)) (inl (row-name W E i B .1)) (inl (row-name W E i (row-of r l) .1)) d
-            ∙ sym (H .name-of r l) ∙ m-back,
-      )
-
-  text-of : (k : ℕ) → k < n → getD names k 0 ≡ m - 1 + 1 → t .text (getD xs k 0 + 1) ≡ t .text (x + 1)
-  text-of k h d = ap (word (W .image)) (sym (H .name-of k h) ∙ d ∙ sym m-back ∙ H .name-of r l)
-
-  before-of : (k : ℕ) → k < n → getD xs k 0 < x → k < r
-  before-of k h g = ⊎-elim (λ (d : k < r). d) (⊎-elim (λ (d : k ≡ r). let z = ap (λ (y : ℕ). getD xs y 0) d in absurd (omega arith)) (λ (d : r < k). let z = rising-at xs (rows-rise t e) r k d (in-list k h) in absurd (omega arith))) (side k r)
-
-  after-of : (k : ℕ) → k < n → x < getD xs k 0 → r < k
-  after-of k h g = ⊎-elim (λ (d : k < r). let z = rising-at xs (rows-rise t e) k r d (in-list r l) in absurd (omega arith)) (⊎-elim (λ (d : k ≡ r). let z = ap (λ (y : ℕ). getD xs y 0) d in absurd (omega arith)) (λ (d : r < k). d)) (side k r)
-
-  tells-earlier : Tells (isEarlier t e x) ((z : ℕ) × Below t param-let e z × ((z < x) × ((t .text (z + 1) ≡ t .text (x + 1)) × (isRow t z ≡ true))))
-  unfolding isEarlier
-  tells-earlier = tells-someBelow t param-let e (λ z. tells-both (tells-ltb z x) (tells-both (tells-named t (t .text (x + 1)) z) (tells-self (isRow t z))))
-
-  tells-later : Tells (isLater t e x) ((z : ℕ) × Below t param-let e z × ((x < z) × ((t .text (z + 1) ≡ t .text (x + 1)) × (isRow t z ≡ true))))
-  unfolding isLater
-  tells-later = tells-someBelow t param-let e (λ z. tells-both (tells-ltb x z) (tells-both (tells-named t (t .text (x + 1)) z) (tells-self (isRow t z))))
-
-  -- the row is the first of its name when the table has it, and so for the last
-  first-so : isEarlier t e x ≡ not (eqb (getD first (m - 1) 0) (r + 1))
-  first-so = go (isEarlier t e x) refl
+  noted-is : (w : List ℕ) → eqb (F w) (r + 1) ≡ both (same w (t .text (x + 1))) (not E)
+  noted-is w = go (same w (t .text (x + 1))) refl
     where
-      go : (d : Bool) → isEarlier t e x ≡ d → isEarlier t e x ≡ not (eqb (getD first (m - 1) 0) (r + 1))
-      go true d =
-          let s = tells-earlier .so d in
-          let o = other (s .0) (s .1) (s .2 .1 .1) (s .2 .1 .0) in
-          let z = o .2 in
-          let h = s .2 .0 in
-          let k = before-of (o .0) (o .1) (omega arith) in
-          d ∙ sym (ap not (ne-eqb (getD first (m - 1) 0) (r + 1) (λ q. R .firsts .earlier (m - 1) m-low (o .0) (omega arith) (o .3))))
-      go false d =
-          let v = R .firsts .points .within .high (m - 1) m-low in
-          ⊎-elim
-          (λ (q : getD first (m - 1) 0 < r + 1).
-          ⊎-elim (λ (z : getD first (m - 1) 0 ≡ 0). absurd (R .firsts .points .none (m - 1) m-low z r l m-back))
-          (λ (z : getD first (m - 1) 0 ≡ 0 → ⊥).
-          let k : getD first (m - 1) 0 - 1 < n = omega (arith, z) in
-          let y = rising-at xs (rows-rise t e) (getD first (m - 1) 0 - 1) r (omega (arith, z)) (in-list r l) in
-          absurd (true≢false (sym (tells-earlier .back (getD xs (getD first (m - 1) 0 - 1) 0, row-of _ k, (y, (text-of _ k (R .firsts .points .is (m - 1) m-low (omega (arith, z))), row-at t e _ (in-list _ k) .1)))) ∙ d)))
-          (eq-or-ne (getD first (m - 1) 0) 0))
-          (⊎-elim (λ (q : getD first (m - 1) 0 ≡ r + 1). d ∙ sym (ap not (eq-eqb _ _ q))) (λ (q : r + 1 < getD first (m - 1) 0). absurd (R .firsts .earlier (m - 1) m-low r q m-back)))
-          (side (getD first (m - 1) 0) (r + 1))
+      go : (b : Bool) → same w (t .text (x + 1)) ≡ b → eqb (F w) (r + 1) ≡ both b (not E)
+      go true q = ap (λ (v : List ℕ). eqb (F v) (r + 1)) (tells-same w (t .text (x + 1)) .so q) ∙ sym (ap not d ∙ not-not _)
+      go false q = ne-eqb (F w) (r + 1) (λ z. true≢false (sym (tells-same w (t .text (x + 1)) .back (sym (tells-named t w x .so (mine w z)))) ∙ q))
 
-  last-so : isLater t e x ≡ not (eqb (getD last (m - 1) 0) (r + 1))
-  last-so = go (isLater t e x) refl
+  taken-elsewhere : E ≡ true → (w : List ℕ) → eqb (F w) (r + 1) ≡ false
+  taken-elsewhere q w = noted-is w ∙ ap (λ (b : Bool). both (same w (t .text (x + 1))) (not b)) q ∙ none (same w (t .text (x + 1)))
     where
-      go : (d : Bool) → isLater t e x ≡ d → isLater t e x ≡ not (eqb (getD last (m - 1) 0) (r + 1))
-      go true d =
-          let s = tells-later .so d in
-          let o = other (s .0) (s .1) (s .2 .1 .1) (s .2 .1 .0) in
-          let z = o .2 in
-          let h = s .2 .0 in
-          let k = after-of (o .0) (o .1) (omega arith) in
-          d ∙ sym (ap not (ne-eqb (getD last (m - 1) 0) (r + 1) (λ q. R .lasts .later (m - 1) m-low (o .0) (omega arith) (o .1) (o .3))))
-      go false d =
-          let v = R .lasts .points .within .high (m - 1) m-low in
-          ⊎-elim
-          (λ (q : getD last (m - 1) 0 < r + 1). absurd (R .lasts .later (m - 1) m-low r (omega arith) l m-back))
-          (⊎-elim (λ (q : getD last (m - 1) 0 ≡ r + 1). d ∙ sym (ap not (eq-eqb _ _ q)))
-          (λ (q : r + 1 < getD last (m - 1) 0).
-          let k : getD last (m - 1) 0 - 1 < n = omega arith in
-          let y = rising-at xs (rows-rise t e) r (getD last (m - 1) 0 - 1) (omega arith) (in-list _ k) in
-          absurd (true≢false (sym (tells-later .back (getD xs (getD last (m - 1) 0 - 1) 0, row-of _ k, (y, (text-of _ k (R .lasts .points .is (m - 1) m-low (omega arith)), row-at t e _ (in-list _ k) .1)))) ∙ d))))
-          (side (getD last (m - 1) 0) (r + 1))
+      none : (b : Bool) → both b false ≡ false
+      none true = refl
+      none false = refl
 
-  -- a table has this row for a name only if it is the row's
-  choose : (tab : List ℕ) → Points names n tab → (a : ℕ) → 1 ≤ a → a ≤ 1024 → eqb (getD tab (a - 1) 0) (r + 1) ≡ both (eqb a m) (eqb (getD tab (m - 1) 0) (r + 1))
-  choose tab P a g h =
-      ⊎-elim (λ (d : a ≡ m). rw d (sym (rw (eq-eqb m m refl))))
-      (λ (d : a ≡ m → ⊥).
-      ne-eqb (getD tab (a - 1) 0) (r + 1)
-      (λ q.
-      let z : getD tab (a - 1) 0 - 1 ≡ r = omega arith in
-      let y = P .is (a - 1) (omega arith) (omega arith) in
-      let w : m ≡ a - 1 + 1 = ap (λ (k : ℕ). getD names k 0) (sym z) ∙ y in
-      d (omega arith))
-      ∙ sym (rw (ne-eqb a m d)))
-      (eq-or-ne a m)
-
-  -- a Name or an Ident has the row's name exactly when it has its number
-  same-name : (j : ℕ) → In part b j → (t .kind j ≡ 23) ⊎ (t .kind j ≡ 35) → same (t .text j) (t .text (x + 1)) ≡ eqb (number (W .image) j) m
-  same-name j p k =
-      let h = inside W p in
-      let g = W .shown .high in
-      ⊎-elim (λ (d : number (W .image) j ≡ m). tells-same _ _ .back (ap (word (W .image)) (d ∙ H .name-of r l)) ∙ sym (eq-eqb _ _ d))
-      (λ (d : number (W .image) j ≡ m → ⊥).
-      same-not _ _ (λ q. d (numbers-same W j (x + 1) (omega arith) (name-below W E i (row-of r l)) k (inl (row-name W E i (row-of r l) .1)) q ∙ sym (H .name-of r l)))
-      ∙ sym (ne-eqb _ _ d))
-      (eq-or-ne (number (W .image) j) m)
-
-  ranges : (j : ℕ) → In part b j → (t .kind j ≡ 23) ⊎ (t .kind j ≡ 35) → (1 ≤ number (W .image) j) × (number (W .image) j ≤ 1024)
-  ranges j p k = let h = inside W p in let g = W .shown .high in let q = in-range (W .image) (W .shown .admitted) j (omega arith) k in (omega arith, omega arith)
-
-  -- what the table says of such a node
-  told : (tab : List ℕ) → Points names n tab → (j : ℕ) → In part b j → (t .kind j ≡ 23) ⊎ (t .kind j ≡ 35)
-      → eqb (getD tab (number (W .image) j - 1) 0) (r + 1) ≡ both (same (t .text j) (t .text (x + 1))) (eqb (getD tab (m - 1) 0) (r + 1))
-  told tab P j p k = let g = ranges j p k in choose tab P (number (W .image) j) (g .0) (g .1) ∙ ap (λ (d : Bool). both d (eqb (getD tab (m - 1) 0) (r + 1))) (sym (same-name j p k))
-
-  param-name : (j : ℕ) → e < j → j < t .end e → has (t .kind j) param ≡ true → In part b (j + 1) × (t .kind (j + 1) ≡ 23)
-  param-name j g h k = row-name W E i (record { after = g; inside = h; kind = List·Memᴰ·head (List·Memᴰ·eq-of-singleton (tells-has (t .kind j) param .so k)) })
-
-  -- marks: a node's part in both lists
-  burn-is : (j : ℕ) → e < j → j < t .end e → has (t .kind j) param ≡ true
-      → burnHit (W .image) e first r j ≡ both (isBurned t e j) (both (named t (t .text (x + 1)) j) (eqb (getD first (m - 1) 0) (r + 1)))
-  unfolding named
-  burn-is j g h k = let p = param-name j g h k in rw k (ap (both (isBurned t e j)) (told first (R .firsts .points) (j + 1) (p .0) (inl (p .1))))
-
-  burn-none : (j : ℕ) → has (t .kind j) param ≡ false → burnHit (W .image) e first r j ≡ false
-  burn-none j k = rw k
-
-  abbrev burnt : ℕ → List ℕ
-  burnt z = keep (both (named (treeOf W) (treeOf W .text (getD (rowsOf (treeOf W) e) r 0 + 1)) z) (isBurned (treeOf W) e z)) alone z
-
-  burn-chosen : eqb (getD first (m - 1) 0) (r + 1) ≡ true → (j : ℕ) → e < j → j < t .end e → keep (has (t .kind j) param) burnt j ≡ keep (burnHit (W .image) e first r j) alone j
-  unfolding keep
-  burn-chosen q j g h = go (has (t .kind j) param) refl
+  taken-here : E ≡ false → (w : List ℕ) → eqb (F w) (r + 1) ≡ same w (t .text (x + 1))
+  taken-here q w = noted-is w ∙ ap (λ (b : Bool). both (same w (t .text (x + 1))) (not b)) q ∙ all (same w (t .text (x + 1)))
     where
-      go : (k : Bool) → has (t .kind j) param ≡ k → keep k burnt j ≡ keep (burnHit (W .image) e first r j) alone j
-      go true k =
-          keep-as j (both-swap (named t (t .text (x + 1)) j) (isBurned t e j) ∙ ap (both (isBurned t e j)) (sym (both-true (named t (t .text (x + 1)) j)) ∙ ap (both (named t (t .text (x + 1)) j)) (sym q)))
-          ∙ sym (keep-as j (burn-is j g h k))
-      go false k = sym (keep-as j (burn-none j k))
+      all : (b : Bool) → both b true ≡ b
+      all true = refl
+      all false = refl
 
-  burn-left : eqb (getD first (m - 1) 0) (r + 1) ≡ false → (j : ℕ) → e < j → j < t .end e → keep (burnHit (W .image) e first r j) alone j ≡ []
-  unfolding keep
-  burn-left q j g h = go (has (t .kind j) param) refl
+-- the first, the last row of a word: one that has it, and at most as many as there are rows
+module _ (t : Tree) (e : ℕ) (w : List ℕ) where
+  pub first-few : firstRow t (rowsOf e t) w ≤ length (rowsOf e t)
+  first-few = go _ (first-passes (named t w) 0 (rowsOf e t))
     where
-      go : (k : Bool) → has (t .kind j) param ≡ k → keep (burnHit (W .image) e first r j) alone j ≡ []
-      go true k = keep-as j (burn-is j g h k ∙ ap (λ (d : Bool). both (isBurned t e j) (both (named t (t .text (x + 1)) j) d)) q ∙ ap (both (isBurned t e j)) (both-false (named t (t .text (x + 1)) j)) ∙ both-false (isBurned t e j))
-      go false k = keep-as j (burn-none j k)
+      go : (v : ℕ) → FirstPasses (named t w) 0 (rowsOf e t) v → v ≤ length (rowsOf e t)
+      go v (inl f) = let z = f .0 in omega arith
+      go v (inr (s, d, P, f)) = let h = P .in-rows in omega arith
 
-  pub marks-are : e < t .end e → marks t e x ≡ hits (burnHit (W .image) e first r) (e + 1) (t .end e)
-  unfolding marks below
-  marks-are ends = go (eqb (getD first (m - 1) 0) (r + 1)) refl
+  pub last-few : lastRow t (rowsOf e t) w ≤ length (rowsOf e t)
+  last-few = go _ (last-passes (named t w) 0 0 (rowsOf e t))
     where
-      go : (c : Bool) → eqb (getD first (m - 1) 0) (r + 1) ≡ c → pick (isEarlier t e x) [] (run (λ y. keep (has (t .kind y) param) burnt y) (suc e) (t .end e - suc e)) ≡ hits (burnHit (W .image) e first r) (e + 1) (t .end e)
-      go true q = rw (first-so ∙ ap not q) (range-same _ _ e (t .end e) (burn-chosen q))
-      go false q = rw (first-so ∙ ap not q) (sym (run-empty _ (e + 1) (t .end e) (omega arith) (λ j g h. burn-left q j (omega arith) h)))
+      go : (v : ℕ) → LastPasses (named t w) 0 0 (rowsOf e t) v → v ≤ length (rowsOf e t)
+      go v (inl f) = let z = f .0 in omega arith
+      go v (inr (s, d, P, f)) = let h = P .in-rows in omega arith
 
-  -- uses
-  use-is : (j : ℕ) → e < j → j < t .end e → has (t .kind j) ident ≡ true
-      → useHit (W .image) e last r j ≡ both (isCounted t e j) (both (same (t .text j) (t .text (x + 1))) (eqb (getD last (m - 1) 0) (r + 1)))
-  use-is j g h k = rw k (ap (both (isCounted t e j)) (told last (R .lasts .points) j (within W i g h) (inr (List·Memᴰ·eq-of-singleton (tells-has (t .kind j) ident .so k)))))
+  here : (r s : ℕ) → s ≡ r → Passes (named t w) (rowsOf e t) s → named t w (getD (rowsOf e t) r 0) ≡ true
+  here r s d P = ap (λ (j : ℕ). named t w (getD (rowsOf e t) j 0)) (sym d) ∙ P .is
 
-  use-none : (j : ℕ) → has (t .kind j) ident ≡ false → useHit (W .image) e last r j ≡ false
-  use-none j k = rw k
-
-  abbrev used : ℕ → List ℕ
-  used z = keep (same (treeOf W .text z) (treeOf W .text (getD (rowsOf (treeOf W) e) r 0 + 1))) (λ j. keep (isCounted (treeOf W) e j) alone j) z
-
-  use-chosen : eqb (getD last (m - 1) 0) (r + 1) ≡ true → (j : ℕ) → e < j → j < t .end e → keep (has (t .kind j) ident) used j ≡ keep (useHit (W .image) e last r j) alone j
-  unfolding keep
-  use-chosen q j g h = go (has (t .kind j) ident) refl
+  first-mine : (r : ℕ) → firstRow t (rowsOf e t) w ≡ r + 1 → named t w (getD (rowsOf e t) r 0) ≡ true
+  first-mine r = go _ (first-passes (named t w) 0 (rowsOf e t))
     where
-      go : (k : Bool) → has (t .kind j) ident ≡ k → keep k used j ≡ keep (useHit (W .image) e last r j) alone j
-      go true k =
-          keep-twice (same (t .text j) (t .text (x + 1))) (isCounted t e) j
-          ∙ keep-as j (ap (both (isCounted t e j)) (sym (both-true (same (t .text j) (t .text (x + 1)))) ∙ ap (both (same (t .text j) (t .text (x + 1)))) (sym q)))
-          ∙ sym (keep-as j (use-is j g h k))
-      go false k = sym (keep-as j (use-none j k))
+      go : (v : ℕ) → FirstPasses (named t w) 0 (rowsOf e t) v → v ≡ r + 1 → named t w (getD (rowsOf e t) r 0) ≡ true
+      go v (inl f) q = let z = f .0 in absurd (omega arith)
+      go v (inr (s, d, P, f)) q = here r s (omega arith) P
 
-  use-left : eqb (getD last (m - 1) 0) (r + 1) ≡ false → (j : ℕ) → e < j → j < t .end e → keep (useHit (W .image) e last r j) alone j ≡ []
-  unfolding keep
-  use-left q j g h = go (has (t .kind j) ident) refl
+  last-mine : (r : ℕ) → lastRow t (rowsOf e t) w ≡ r + 1 → named t w (getD (rowsOf e t) r 0) ≡ true
+  last-mine r = go _ (last-passes (named t w) 0 0 (rowsOf e t))
     where
-      go : (k : Bool) → has (t .kind j) ident ≡ k → keep (useHit (W .image) e last r j) alone j ≡ []
-      go true k = keep-as j (use-is j g h k ∙ ap (λ (d : Bool). both (isCounted t e j) (both (same (t .text j) (t .text (x + 1))) d)) q ∙ ap (both (isCounted t e j)) (both-false (same (t .text j) (t .text (x + 1)))) ∙ both-false (isCounted t e j))
-      go false k = keep-as j (use-none j k)
+      go : (v : ℕ) → LastPasses (named t w) 0 0 (rowsOf e t) v → v ≡ r + 1 → named t w (getD (rowsOf e t) r 0) ≡ true
+      go v (inl f) q = let z = f .0 in absurd (omega arith)
+      go v (inr (s, d, P, f)) q = here r s (omega arith) P
 
-  pub uses-are : e < t .end e → uses t e x ≡ hits (useHit (W .image) e last r) (e + 1) (t .end e)
-  unfolding uses below
-  uses-are ends = go (eqb (getD last (m - 1) 0) (r + 1)) refl
+-- Burn marks
+
+module _ (t : Tree) (e : ℕ) (F : List ℕ → ℕ) (r : ℕ) where
+  no-burns : ((w : List ℕ) → eqb (F w) (r + 1) ≡ false) → burnsOn t e F r ≡ []
+  unfolding below
+  no-burns n = run-empty _ (suc e) _ (λ y l h. drop (has (t .kind y) param) (isBurned t e) (λ z. eqb (F (t .text (z + 1))) (r + 1)) y (n (t .text (y + 1))))
+
+  no-uses : ((w : List ℕ) → eqb (F w) (r + 1) ≡ false) → (base to : ℕ) → usesOn t e F base to r ≡ []
+  no-uses n base to = run-empty _ base _ (λ y l h. drop (has (t .kind y) ident) (isCounted t e) (λ z. eqb (F (t .text z)) (r + 1)) y (n (t .text y)))
+
+marks-here : (t : Tree) (e r : ℕ) → r < length (rowsOf e t) → burnsOn t e (firstRow t (rowsOf e t)) r ≡ marks t e (getD (rowsOf e t) r 0)
+unfolding marks below named
+marks-here t e r l = go (isEarlier t e x) refl
+  where
+    x : ℕ
+    x = getD (rowsOf e t) r 0
+
+    F : List ℕ → ℕ
+    F = firstRow t (rowsOf e t)
+
+    go : (b : Bool) → isEarlier t e x ≡ b → burnsOn t e F r ≡ pick b [] (below t param e (λ y. keep (both (named t (t .text (x + 1)) y) (isBurned t e y)) alone y))
+    go true q = no-burns t e F r (taken-elsewhere t e r F (isEarlier t e x) (λ w. first-mine t e w r) (first-of-name t e r l) q)
+    go false q = run-same _ _ (suc e) _ (λ y g h. join (has (t .kind y) param) (isBurned t e) (λ z. eqb (F (t .text (z + 1))) (r + 1)) (named t (t .text (x + 1))) y (taken-here t e r F (isEarlier t e x) (λ w. first-mine t e w r) (first-of-name t e r l) q (t .text (y + 1))))
+
+-- Counted occurrences
+
+-- a row that a later one of its name takes over has none
+no-use : (t : Tree) (e x : ℕ) → isLater t e x ≡ true → uses t e x ≡ []
+unfolding uses
+no-use t e x q = rw q
+
+module _ {nodes : List ℕ} {base : ℕ} {reader : List Bool} (T : Counting nodes base reader) where
+  uses-here : (r : ℕ) → r < length (rowsOf (T .entry) (treeOf (T .view))) → usesOn (treeOf (T .view)) (T .entry) (lastRow (treeOf (T .view)) (rowsOf (T .entry) (treeOf (T .view)))) base (T .view .upto) r ≡ uses (treeOf (T .view)) (T .entry) (getD (rowsOf (T .entry) (treeOf (T .view))) r 0)
+  uses-here r l = go (isLater t e x) refl
     where
-      go : (c : Bool) → eqb (getD last (m - 1) 0) (r + 1) ≡ c → pick (isLater t e x) [] (run (λ y. keep (has (t .kind y) ident) used y) (suc e) (t .end e - suc e)) ≡ hits (useHit (W .image) e last r) (e + 1) (t .end e)
-      go true q = rw (last-so ∙ ap not q) (range-same _ _ e (t .end e) (use-chosen q))
-      go false q = rw (last-so ∙ ap not q) (sym (run-empty _ (e + 1) (t .end e) (omega arith) (λ j g h. use-left q j (omega arith) h)))
+      t : Tree
+      t = treeOf (T .view)
+
+      e : ℕ
+      e = T .entry
+
+      x : ℕ
+      x = getD (rowsOf e t) r 0
+
+      F : List ℕ → ℕ
+      F = lastRow t (rowsOf e t)
+
+      go : (b : Bool) → isLater t e x ≡ b → usesOn t e F base (T .view .upto) r ≡ uses t e x
+      go true q = no-uses t e F r (taken-elsewhere t e r F (isLater t e x) (λ w. last-mine t e w r) (last-of-name t e r l) q) base (T .view .upto) ∙ sym (no-use t e x q)
+      go false q = run-same _ _ base _ (λ y g h. swap (has (t .kind y) ident) (isCounted t e) (λ z. eqb (F (t .text z)) (r + 1)) (λ i. same (t .text i) (t .text (x + 1))) y (taken-here t e r F (isLater t e x) (λ w. last-mine t e w r) (last-of-name t e r l) q (t .text y))) ∙ sym (uses-are T x q)
+
+-- a row's, or nothing where there is no such row
+absent : (t : Tree) (e r : ℕ) (F : List ℕ → ℕ) → ((w : List ℕ) → F w ≤ length (rowsOf e t)) → length (rowsOf e t) ≤ r → (w : List ℕ) → eqb (F w) (r + 1) ≡ false
+absent t e r F f h w = ne-eqb (F w) (r + 1) (λ d. let k = f w in omega arith)
+
+pub marks-on : (t : Tree) (e r : ℕ) → burnsOn t e (firstRow t (rowsOf e t)) r ≡ rowMarks t e r
+marks-on t e r = go (ltb r (length (rowsOf e t))) refl
+  where
+    go : (b : Bool) → ltb r (length (rowsOf e t)) ≡ b → burnsOn t e (firstRow t (rowsOf e t)) r ≡ pick b (marks t e (getD (rowsOf e t) r 0)) []
+    go true q = marks-here t e r (ltb-true r _ q)
+    go false q = no-burns t e _ r (absent t e r (firstRow t (rowsOf e t)) (first-few t e) (ltb-false r _ q))
+
+pub uses-on : {nodes : List ℕ} {base : ℕ} {reader : List Bool} (T : Counting nodes base reader) (r : ℕ)
+    → usesOn (treeOf (T .view)) (T .entry) (lastRow (treeOf (T .view)) (rowsOf (T .entry) (treeOf (T .view)))) base (T .view .upto) r ≡ rowUses (treeOf (T .view)) (T .entry) r
+uses-on {base = base} T r = go (ltb r (length (rowsOf (T .entry) (treeOf (T .view))))) refl
+  where
+    go : (b : Bool) → ltb r (length (rowsOf (T .entry) (treeOf (T .view)))) ≡ b
+        → usesOn (treeOf (T .view)) (T .entry) (lastRow (treeOf (T .view)) (rowsOf (T .entry) (treeOf (T .view)))) base (T .view .upto) r ≡ pick b (uses (treeOf (T .view)) (T .entry) (getD (rowsOf (T .entry) (treeOf (T .view))) r 0)) []
+    go true q = uses-here T r (ltb-true r _ q)
+    go false q = no-uses (treeOf (T .view)) (T .entry) _ r (absent (treeOf (T .view)) (T .entry) r (lastRow (treeOf (T .view)) (rowsOf (T .entry) (treeOf (T .view)))) (last-few (treeOf (T .view)) (T .entry)) (ltb-false r _ q)) base (T .view .upto)

@@ -11,24 +11,24 @@ use lib.ListN.{length, length-append, getD, set, take}
 use lib.Seq.{take-suc, length-sets}
 use Rattle.image.specs.Pick.{pick}
 use Rattle.records.proofs.Laws.{sets-append}
-use Rattle.lines.specs.Line.{digits, rest, Wrote}
+use Rattle.lines.specs.Line.{digits, rest, Printed}
 
-pub wrote-none : (o : List ℕ) (k : ℕ) → Wrote o k [] o k
+pub wrote-none : (o : List ℕ) (k : ℕ) → Printed o k [] o k
 wrote-none o k = record { count = omega arith; bytes = refl }
 
-pub wrote-byte : {o o′ : List ℕ} (k b : ℕ) → o′ ≡ set o k b → Wrote o k (b ∷ []) o′ (k + 1)
+pub wrote-byte : {o o′ : List ℕ} (k b : ℕ) → o′ ≡ set o k b → Printed o k (b ∷ []) o′ (k + 1)
 wrote-byte k b e = record { count = refl; bytes = e }
 
-pub wrote-join : {o₀ o₁ o₂ : List ℕ} {k₀ k₁ k₂ : ℕ} {a b : List ℕ} → Wrote o₀ k₀ a o₁ k₁ → Wrote o₁ k₁ b o₂ k₂ → Wrote o₀ k₀ (a ++ b) o₂ k₂
+pub wrote-join : {o₀ o₁ o₂ : List ℕ} {k₀ k₁ k₂ : ℕ} {a b : List ℕ} → Printed o₀ k₀ a o₁ k₁ → Printed o₁ k₁ b o₂ k₂ → Printed o₀ k₀ (a ++ b) o₂ k₂
 wrote-join {o₀} {o₁} {o₂} {k₀} {k₁} {k₂} {a} {b} p q = record {
   count = q .count ∙ omega (arith, p .count, length-append a b);
   bytes = q .bytes ∙ rw (p .bytes) (rw (p .count) (sym (sets-append o₀ k₀ a b)));
 }
 
-pub wrote-as : {o o′ : List ℕ} {k k′ : ℕ} {a b : List ℕ} → a ≡ b → Wrote o k a o′ k′ → Wrote o k b o′ k′
+pub wrote-as : {o o′ : List ℕ} {k k′ : ℕ} {a b : List ℕ} → a ≡ b → Printed o k a o′ k′ → Printed o k b o′ k′
 wrote-as e p = rw e at p
 
-pub wrote-long : {o o′ : List ℕ} {k k′ : ℕ} {t : List ℕ} → Wrote o k t o′ k′ → length o′ ≡ length o
+pub wrote-long : {o o′ : List ℕ} {k k′ : ℕ} {t : List ℕ} → Printed o k t o′ k′ → length o′ ≡ length o
 wrote-long {o} {o′} {k} {k′} {t} p = ap length (p .bytes) ∙ length-sets o k t
 
 pub take-next : (t : List ℕ) (i : ℕ) → i < length t → take i t ++ (getD t i 0 ∷ []) ≡ take (i + 1) t

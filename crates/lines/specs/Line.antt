@@ -21,6 +21,6 @@ rest [] = 10 ∷ []
 rest (n ∷ l) = 32 ∷ decimal n ++ rest l
 
 -- the bytes t after k bytes: so many are counted then, and so the buffer stands; what does not fit is not written
-pub record Wrote (o : List ℕ) (k : ℕ) (t : List ℕ) (o′ : List ℕ) (k′ : ℕ) : Type 0 where
+pub record Printed (o : List ℕ) (k : ℕ) (t : List ℕ) (o′ : List ℕ) (k′ : ℕ) : Type 0 where
   pub count : k′ ≡ k + length t
   pub bytes : o′ ≡ sets o k t

@@ -4,7 +4,7 @@ ghost use mathlib.Core.List.{[], _∷_};
 ghost use Prim.Native.Nat.{_+_, _<_, _≤_, _^_};
 ghost use lib.ListN.{length, set};
 ghost use Rattle.records.specs.Words.{old, new};
-ghost use Rattle.lines.specs.Line.{digits, rest, Wrote};
+ghost use Rattle.lines.specs.Line.{digits, rest, Printed};
 
 // Stores b at i, if the buffer has such a byte.
 fn store(out: &mut [u8], i: usize, b: u8)
@@ -18,7 +18,7 @@ fn store(out: &mut [u8], i: usize, b: u8)
 // One byte.
 fn put(out: &mut [u8], at: usize, b: u8) -> usize
     requires { ⌜ at < 2 ^ 60 ⌝ }
-    ensures { λ r. ⌜ Wrote (old out) at (b ∷ []) (new out) r × (r ≡ at + 1) ⌝ }
+    ensures { λ r. ⌜ Printed (old out) at (b ∷ []) (new out) r × (r ≡ at + 1) ⌝ }
 {
     store(out, at, b);
     at + 1
@@ -35,7 +35,7 @@ fn digit(d: usize) -> u8
 // A number's digits, at most so many.
 pub fn decimal(n: usize, most: usize, out: &mut [u8], at: usize) -> usize
     requires { ⌜ at + most < 2 ^ 60 ⌝ }
-    ensures { λ r. ⌜ Wrote (old out) at (digits most n) (new out) r × (r ≤ at + most) ⌝ }
+    ensures { λ r. ⌜ Printed (old out) at (digits most n) (new out) r × (r ≤ at + most) ⌝ }
 {
     if most == 0 {
         return at;
@@ -50,7 +50,7 @@ pub fn decimal(n: usize, most: usize, out: &mut [u8], at: usize) -> usize
 // A space and a number.
 fn number(n: usize, out: &mut [u8], at: usize) -> usize
     requires { ⌜ at < 2 ^ 59 ⌝ }
-    ensures { λ r. ⌜ Wrote (old out) at (32 ∷ digits 20 n) (new out) r × (r ≤ at + 21) ⌝ }
+    ensures { λ r. ⌜ Printed (old out) at (32 ∷ digits 20 n) (new out) r × (r ≤ at + 21) ⌝ }
 {
     let k = put(out, at, b' ');
     decimal(n, 20, out, k)
@@ -59,7 +59,7 @@ fn number(n: usize, out: &mut [u8], at: usize) -> usize
 // The rest of a line: one number.
 pub fn rest_one(n: usize, out: &mut [u8], at: usize) -> usize
     requires { ⌜ at < 2 ^ 58 ⌝ }
-    ensures { λ r. ⌜ Wrote (old out) at (rest (n ∷ [])) (new out) r × (r ≤ at + 22) ⌝ }
+    ensures { λ r. ⌜ Printed (old out) at (rest (n ∷ [])) (new out) r × (r ≤ at + 22) ⌝ }
 {
     let k = number(n, out, at);
     put(out, k, b'\n')
@@ -68,7 +68,7 @@ pub fn rest_one(n: usize, out: &mut [u8], at: usize) -> usize
 // The rest of a line: four numbers.
 pub fn rest_four(a: usize, b: usize, c: usize, d: usize, out: &mut [u8], at: usize) -> usize
     requires { ⌜ at < 2 ^ 57 ⌝ }
-    ensures { λ r. ⌜ Wrote (old out) at (rest (a ∷ b ∷ c ∷ d ∷ [])) (new out) r × (r ≤ at + 85) ⌝ }
+    ensures { λ r. ⌜ Printed (old out) at (rest (a ∷ b ∷ c ∷ d ∷ [])) (new out) r × (r ≤ at + 85) ⌝ }
 {
     let i = number(a, out, at);
     let j = number(b, out, i);
@@ -79,7 +79,7 @@ pub fn rest_four(a: usize, b: usize, c: usize, d: usize, out: &mut [u8], at: usi
 // Bytes as they stand.
 pub fn text(t: &[u8], out: &mut [u8], at: usize) -> usize
     requires { ⌜ at + length (now t) < 2 ^ 60 ⌝ }
-    ensures { λ r. ⌜ Wrote (old out) at (old t) (new out) r ⌝ }
+    ensures { λ r. ⌜ Printed (old out) at (old t) (new out) r ⌝ }
 {
     let n = t.len();
     let mut i = 0;

@@ -143,7 +143,7 @@ pub fn holds(question: Question, image: &[u8], head: Image, word: &[u8]) -> bool
     if x == 0 {
         return of_no_name(question, word);
     }
-    let mut marks = [false; 1024];
+    let mut marks = [false; Image::NAMES];
     mark_yes(question, image, head, &mut marks);
     marks[x - 1]
 }

@@ -6,7 +6,7 @@ use mathlib.Core.Logic.{⊎-elim}
 use native.Mathlib.Omega.{arith}
 use lib.Dec.{eqb}
 use Rattle.image.specs.Admit.{nameCount}
-use Rattle.image.proofs.Marked.{eq-or-ne}
+use Rattle.image.proofs.Decide.{eq-or-ne}
 use Rattle.rules.specs.Sweep.{same}
 use Rattle.rules.proofs.Reflect.{tells-as, tells-eqb, tells-same, one-fact}
 use Rattle.rules.proofs.Numbers.{same-numbers}

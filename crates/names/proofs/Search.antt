@@ -8,7 +8,7 @@ use native.Mathlib.Omega.{arith}
 use Rattle.image.specs.Text.{less}
 use Rattle.image.specs.Admit.{nameCount}
 use Rattle.image.specs.declared.Image.{Image}
-use Rattle.image.proofs.Marked.{eq-or-ne}
+use Rattle.image.proofs.Decide.{eq-or-ne}
 use Rattle.rules.proofs.Numbers.{trans}
 use Rattle.nodes.specs.Shown.{Admitted, word}
 use Rattle.nodes.proofs.Fall.{not-so}

@@ -13,31 +13,26 @@ use Rattle.image.proofs.Tree.{named}
 use Rattle.rules.proofs.Numbers.{rises}
 use Rattle.nodes.specs.Shown.{Admitted, word}
 
--- the table, and the text after it, by the header's counts
-abbrev pub tableIn : List ℕ → Image → List ℕ
-tableIn s head = slice s (namesAt (head .nodes)) (textAt (head .nodes) (head .names))
-
-abbrev pub textIn : List ℕ → Image → List ℕ
-textIn s head = slice s (textAt (head .nodes) (head .names)) (length s)
-
 module _ {s : List ℕ} {head : Image} (H : Admitted s head) where
-  table-is : tableIn s head ≡ namesOf s
-  table-is = rw (H .nodes, H .names)
+  -- the table from t on, and the text from x on, by the header's counts
+  module _ {t x : ℕ} (from : t ≡ namesAt (head .nodes)) (to : x ≡ textAt (head .nodes) (head .names)) where
+    table-is : slice s t x ≡ namesOf s
+    table-is = rw (from, to, H .nodes, H .names)
 
-  text-is : textIn s head ≡ textPart s
-  text-is = rw (H .nodes, H .names)
+    text-is : slice s x (length s) ≡ textPart s
+    text-is = rw (to, H .nodes, H .names)
 
-  module _ {k a b : ℕ} (l : k < head .names) (d : a ≡ offOf (tableIn s head) k) (e : b ≡ offOf (tableIn s head) (k + 1)) where
-    -- the name at place k lies within the text, and has its bytes there
-    pub lies : (a ≤ b) × (b ≤ length (textIn s head))
-    lies =
-        let g : namesOk (tableIn s head) (textIn s head) (head .names) ≡ true = rw (table-is, text-is, H .names) (given s (H .admitted) .names) in
-        let z : k + 1 - 1 ≡ k = omega arith in
-        let h = rw z at (named (tableIn s head) (textIn s head) (head .names) (k + 1) g (omega arith) (omega arith)) in
-        (omega arith, omega arith)
+    module _ {k a b : ℕ} (l : k < head .names) (d : a ≡ offOf (slice s t x) k) (e : b ≡ offOf (slice s t x) (k + 1)) where
+      -- the name at place k lies within the text, and has its bytes there
+      pub lies : (a ≤ b) × (b ≤ length (slice s x (length s)))
+      lies =
+          let g : namesOk (slice s t x) (slice s x (length s)) (head .names) ≡ true = rw (table-is, text-is, H .names) (given s (H .admitted) .names) in
+          let z : k + 1 - 1 ≡ k = omega arith in
+          let h = rw z at (named (slice s t x) (slice s x (length s)) (head .names) (k + 1) g (omega arith) (omega arith)) in
+          (omega arith, omega arith)
 
-    pub lies-there : slice (textIn s head) a b ≡ word s (k + 1)
-    lies-there = let z : k + 1 - 1 ≡ k = omega arith in rw (z, ← table-is, ← text-is, d, e)
+      pub lies-there : slice (slice s x (length s)) a b ≡ word s (k + 1)
+      lies-there = let z : k + 1 - 1 ≡ k = omega arith in rw (z, ← table-is, ← text-is, d, e)
 
   -- names ascend by their bytes
   pub ascends : (i j : ℕ) → i < j → j ≤ nameCount s → less (word s i) (word s j) ≡ true

@@ -33,10 +33,8 @@ fn name_at(image: &[u8], head: Image, k: usize) -> &[u8]
     requires { ⌜ Admitted (now image) head × (k < head .names) ⌝ }
     ensures { λ r. ⌜ now r ≡ word (old image) (k + 1) ⌝ }
 {
-    let n = head.nodes;
-    let m = head.names;
-    let table = 24 + 16 * n;
-    let texts = table + 2 * (m + 1);
+    let table = head.names_at();
+    let texts = head.text_at();
     let from = image::offset(&image[table..texts], k);
     let to = image::offset(&image[table..texts], k + 1);
     let text = &image[texts..];

@@ -1,21 +1,20 @@
 -- The statements of an item: where they start, and that one sweep over all of their nodes is the sweep statement by statement.
 use Prim.Native.Nat.{ℕ, _+_, _-_, _<_, _≤_}
 use mathlib.Core.Path.{_≡_, refl, ap, _∙_, sym}
-use mathlib.Core.Bool.{Bool, true, false, true≢false}
+use mathlib.Core.Bool.{true, false, true≢false}
 use mathlib.Core.List.{List, [], _++_, append-nil}
 use mathlib.Core.Logic.{_⊎_, inl, inr, ⊎-elim}
-use native.Mathlib.Nat.{eq-or-lt-of-le}
+use native.Mathlib.Nat.{eq-or-lt-of-le, sub-self}
 use native.Mathlib.Omega.{arith}
-use borrow.Author.Tests.{ltb-true, ltb-false, ne-eqb}
-use lib.Dec.{ltb}
-use native.Mathlib.Nat.{sub-self}
+use borrow.Author.Tests.{ne-eqb}
 use Rattle.image.specs.Pick.{every}
 use Rattle.image.specs.Node.{endOf}
 use Rattle.image.specs.Admit.{nodesOf, nodeCount}
+use Rattle.image.proofs.Decide.{lt-or-ge}
 use Rattle.image.proofs.Row.{Kid, Kids, none, some, kids-within, kids-next}
 use Rattle.image.proofs.Children.{Entry, entry-of, genesis-of, hasNames, isLeaf, names-of, kid-is, leaf}
 use Rattle.rules.specs.Sweep.{run, keep, has}
-use Rattle.rules.specs.All.{parts}
+use Rattle.rules.specs.Standing.{parts}
 use Rattle.rules.specs.Vocabulary.{Rec, below, calls}
 use Rattle.records.proofs.Sweep.{run-none, run-one, run-same, run-parts, run-sooner, run-below, run-below-later, keep-none, keep-one, has-not}
 use Rattle.rules.specs.Tree.{Tree, statement, assign, call}
@@ -25,14 +24,7 @@ use Rattle.nodes.proofs.Ranges.{ranged, into}
 use Rattle.nodes.proofs.Parts.{formed, inside, past}
 use Rattle.nodes.proofs.Shapes.{no-part, not-in, allIn}
 
-side : (a b : ℕ) → (a < b) ⊎ (b ≤ a)
-side a b = go (ltb a b) refl
-  where
-    go : (t : Bool) → ltb a b ≡ t → (a < b) ⊎ (b ≤ a)
-    go true e = inl (ltb-true a b e)
-    go false e = inr (ltb-false a b e)
-
-no-statement : (k : ℕ) → has k parts ≡ false → has k statement ≡ false
+pub no-statement : (k : ℕ) → has k parts ≡ false → has k statement ≡ false
 unfolding allIn has
 no-statement k e = not-in parts k statement refl e
 
@@ -57,7 +49,7 @@ statement-out k e (inl l) = true≢false (sym e ∙ out-of k (λ j a b c. omega 
 statement-out k e (inr l) = true≢false (sym e ∙ out-of k (λ j a b c. omega arith))
 
 split : {a b : ℕ} → a < b → (a + 1 ≡ b) ⊎ (a + 1 < b)
-split {a} {b} l = ⊎-elim (λ (h : a + 1 < b). inr h) (λ (h : b ≤ a + 1). inl (omega arith)) (side (a + 1) b)
+split {a} {b} l = ⊎-elim (λ (h : a + 1 < b). inr h) (λ (h : b ≤ a + 1). inl (omega arith)) (lt-or-ge (a + 1) b)
 
 pub not-assign : (k : ℕ) → has k statement ≡ false → has k assign ≡ false
 unfolding allIn has
@@ -75,15 +67,15 @@ pub none-on : {part : List ℕ} {b a p q : ℕ} (W : View part b) → In part b 
 none-on {a = a} {p = p} W i z l h n f e j g k =
     ⊎-elim (λ (d : j < p). n j g d)
     (λ (d : p ≤ j). ⊎-elim (λ (d : p ≡ j). ap (λ (x : ℕ). has (treeOf W .kind x) statement) (sym d) ∙ f) (λ (d : p < j). no-statement _ (no-part W i z l h j d (omega arith))) (eq-or-lt-of-le d))
-    (side j p)
+    (lt-or-ge j p)
 
 -- a node of a run of children stands in one of them
-cover : {s : List ℕ} {low high mid at : ℕ} → Kids s low high mid at → (i : ℕ) → at ≤ i → i < mid → (k : ℕ) × Kid s low high k mid × (at ≤ k) × (k ≤ i) × (i < endOf s k)
+pub cover : {s : List ℕ} {low high mid at : ℕ} → Kids s low high mid at → (i : ℕ) → at ≤ i → i < mid → (k : ℕ) × Kid s low high k mid × (at ≤ k) × (k ≤ i) × (i < endOf s k)
 cover (none e) i l h = absurd (omega arith)
 cover {s} (some {at} c r) i l h =
     ⊎-elim (λ (g : i < endOf s at). (at, c, omega arith, l, g))
     (λ (g : endOf s at ≤ i). let x = cover r i g h in let p = c .past in let q = x .2 in (x .0, x .1, omega arith, x .3, x .4))
-    (side i (endOf s at))
+    (lt-or-ge i (endOf s at))
 
 -- two sweeps that agree on each child agree on all
 agree : {s : List ℕ} {low high mid at : ℕ} (f g : ℕ → List Rec) → Kids s low high mid at → ((p : ℕ) → at ≤ p → Kid s low high p mid → run f p (endOf s p - p) ≡ run g p (endOf s p - p))
@@ -133,10 +125,10 @@ module _ {part : List ℕ} {b p r : ℕ} (W : View part b) (i : In part b p) (z 
       absurd
       (⊎-elim
       (λ (f : p + 1 ≡ r). statement-out _ e (inl (let y = ap (treeOf W .kind) f in let w = n .to in omega arith)))
-      (λ (f : p + 1 < r). ⊎-elim (λ (g : r < E .clauses). never (E .params-are) (omega arith) (omega arith) (omega arith) (omega arith) g e) (λ (g : E .clauses ≤ r). never (E .clauses-are) (omega arith) (omega arith) (omega arith) g d e) (side r (E .clauses)))
+      (λ (f : p + 1 < r). ⊎-elim (λ (g : r < E .clauses). never (E .params-are) (omega arith) (omega arith) (omega arith) (omega arith) g e) (λ (g : E .clauses ≤ r). never (E .clauses-are) (omega arith) (omega arith) (omega arith) g d e) (lt-or-ge r (E .clauses)))
       (split (S .after))))
       (eq-or-lt-of-le h))
-      (side (E .body) r)
+      (lt-or-ge (E .body) r)
 
   entry-statements : Kids (nodesOf (W .image)) 24 28 (treeOf W .end p) r
   entry-statements = rw body-is (entry .statements-are)

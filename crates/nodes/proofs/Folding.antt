@@ -21,7 +21,7 @@ module _ {A : Type 0} (f : ℕ → A → A) (v : A) (a : ℕ) where
       ap (folded f v a) e ∙ ap (λ (j : ℕ). f j (folded f v a (i - a))) z
 
   -- nodes that change nothing
-  folded-still : (i n : ℕ) → a ≤ i → ((j : ℕ) → i ≤ j → j < i + n → (u : A) → f j u ≡ u) → folded f v a (i + n - a) ≡ folded f v a (i - a)
+  pub folded-still : (i n : ℕ) → a ≤ i → ((j : ℕ) → i ≤ j → j < i + n → (u : A) → f j u ≡ u) → folded f v a (i + n - a) ≡ folded f v a (i - a)
   folded-still i zero l z = let e : i + zero ≡ i = omega arith in ap (λ (j : ℕ). folded f v a (j - a)) e
   folded-still i (suc n) l z =
       let e : i + suc n ≡ i + n + 1 = omega arith in

@@ -15,3 +15,5 @@ pub mod Walks
 pub mod Walking
 pub mod Naming
 pub mod Steps
+pub mod Until
+pub mod Head

@@ -17,7 +17,7 @@ use Rattle.image.specs.Admit.{refusal, headerRefusal, bodyRefusal, nodeCount, n
 use Rattle.image.proofs.Every.{both-left, both-right, every-at}
 pub use Rattle.image.proofs.Every.{both-false}
 use Rattle.image.proofs.Verdict.{pick-zero}
-use Rattle.image.proofs.Marked.{eq-or-ne}
+use Rattle.image.proofs.Decide.{eq-or-ne}
 use Rattle.image.proofs.Given.{given}
 use Rattle.rules.specs.Sweep.{either, same}
 use Rattle.rules.proofs.Reflect.{tells-same}

@@ -8,7 +8,7 @@ use lib.ListN.{getD}
 use Rattle.image.specs.Node.{kindOf, nameOf, endOf}
 use Rattle.image.specs.Text.{slice}
 use Rattle.image.specs.Admit.{refusal, nodeCount, nameCount, nodesOf}
-use Rattle.image.specs.Formed.{Formed}
+use Rattle.image.specs.Forms.{FormsTree}
 use Rattle.image.proofs.Given.{given}
 use Rattle.image.proofs.Nest.{nests}
 use Rattle.image.proofs.Lent.{lent-kind, lent-end, lent-name, lent-bytes}
@@ -44,7 +44,7 @@ lent s part b u a e S l h g f = record {
 }
 
 module _ {part : List ℕ} {b : ℕ} (W : View part b) where
-  pub formed : Formed (nodesOf (W .image)) (nodeCount (W .image))
+  pub formed : FormsTree (nodesOf (W .image)) (nodeCount (W .image))
   formed = given (W .image) (W .shown .admitted) .nodes
 
   pub few : (W .upto ≤ 2048) × (nameCount (W .image) ≤ 1024)

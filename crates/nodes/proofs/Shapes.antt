@@ -7,13 +7,14 @@ use native.Mathlib.Omega.{arith}
 use borrow.Author.Tests.{eqb-true, lt-ltb}
 use lib.Dec.{eqb}
 use Rattle.image.specs.Pick.{pick, both, every}
-use Rattle.image.specs.Table.{partAt, rowOf}
+use Rattle.image.specs.Digits.{partAt, rowOf}
 use Rattle.image.specs.Admit.{nodesOf, nodeCount}
 use Rattle.image.proofs.Every.{every-at, both-left, both-right}
 use Rattle.image.proofs.Shape.{Child, first-of, family-is, name-kind, field-at}
 use Rattle.image.proofs.Nest.{nests}
 use Rattle.rules.specs.Sweep.{has, either}
-use Rattle.rules.specs.All.{items, parts}
+use Rattle.rules.specs.All.{items}
+use Rattle.rules.specs.Standing.{parts}
 use Rattle.rules.proofs.Admitted.{no-item-below, no-part-below}
 use Rattle.nodes.specs.Shown.{View, In, treeOf}
 use Rattle.nodes.specs.First.{nameFirst, NameFirst}

@@ -10,7 +10,8 @@ use lib.ListN.{length}
 use Rattle.image.specs.Admit.{nodesOf}
 use Rattle.image.proofs.Row.{Kids, kids-next}
 use Rattle.rules.specs.Sweep.{run, keep, has}
-use Rattle.rules.specs.All.{items, parts}
+use Rattle.rules.specs.All.{items}
+use Rattle.rules.specs.Standing.{parts}
 use Rattle.rules.specs.Tree.{statement}
 use Rattle.rules.specs.Vocabulary.{Rec, below}
 use Rattle.rules.proofs.Admitted.{no-part-below}

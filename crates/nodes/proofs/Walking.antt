@@ -5,7 +5,7 @@ use mathlib.Core.Bool.{Bool, true, false}
 use mathlib.Core.List.{List}
 use native.Mathlib.Omega.{arith}
 use Rattle.rules.specs.Sweep.{also, has}
-use Rattle.rules.specs.All.{parts}
+use Rattle.rules.specs.Standing.{parts}
 use Rattle.rules.specs.Vocabulary.{someBelow}
 use Rattle.nodes.specs.Shown.{View, In, treeOf}
 use Rattle.nodes.specs.Table.{Changed}

@@ -7,7 +7,7 @@ use native.Mathlib.Omega.{arith}
 use Rattle.image.specs.Pick.{pick}
 use Rattle.rules.specs.Sweep.{has}
 use Rattle.rules.specs.Tree.{Tree, state, type, declarations, type-holders}
-use Rattle.rules.specs.All.{parts}
+use Rattle.rules.specs.Standing.{parts}
 use Rattle.rules.proofs.Admitted.{no-declaration-below, no-type-below}
 use Rattle.nodes.specs.Shown.{View, In, treeOf}
 use Rattle.nodes.specs.Walk.{onward}

@@ -12,11 +12,11 @@ ghost use Rattle.records.specs.Words.{old, new};
 ghost use Rattle.nodes.specs.Shown.{View, In, Shown, Worded, Admitted, treeOf, number};
 ghost use Rattle.nodes.specs.Marks.{Marks, Turns};
 ghost use Rattle.nodes.specs.Past.{takenOff};
-ghost use Rattle.nodes.specs.First.{NameFirst, NamedPart, Starts, Body};
+ghost use Rattle.nodes.specs.First.{NameFirst, HeadPart, Starts, Body, Head};
 ghost use Rattle.nodes.specs.Walk.{onward};
 
 // One mark for each of 1,024 names, by name number less one.
-pub type Marks = [bool; 1024];
+pub type Marks = [bool; Image::NAMES];
 
 // The kinds of document 01 that the passes name.
 pub const ASSET: usize = 2;
@@ -74,9 +74,8 @@ pub fn area(image: &[u8], head: Image) -> &[u8]
     requires { ⌜ Admitted (now image) head ⌝ }
     ensures { λ r. ⌜ Shown (old image) (now r) 0 (nodeCount (old image)) ⌝ }
 {
-    let n = head.nodes;
-    let end = 24 + 16 * n;
-    &image[24..end]
+    let end = head.names_at();
+    &image[Image::HEADER..end]
 }
 
 pub fn kind(nodes: &[u8], base: usize, p: usize) -> usize
@@ -128,12 +127,11 @@ pub fn mark_name(sort: usize, nodes: &[u8], p: usize, on: bool, marks: &mut Mark
     }
 }
 
-// The marks of the Names of the parts of an entry of this kind are set, or taken off, by a walk over its children.
-pub fn mark_parts(sort: usize, nodes: &[u8], entry: usize, on: bool, marks: &mut Marks)
-    requires { ⌜ NamedPart sort × View (now nodes) 0 × In (now nodes) 0 entry × (0 < entry) ⌝ }
+// The marks of the Names of the parts of an entry of this kind are set, or taken off, by a walk over its children before `to`, its first statement.
+pub fn mark_parts(sort: usize, nodes: &[u8], entry: usize, to: usize, on: bool, marks: &mut Marks)
+    requires { ⌜ HeadPart sort × Head (now nodes) 0 entry to ⌝ }
     ensures { λ _. ⌜ Turns on (λ (W : View (old nodes) 0) w. someBelow (treeOf W) (sort ∷ []) entry (named (treeOf W) w)) marks ⌝ }
 {
-    let to = end(nodes, 0, entry);
     let mut p = entry + 1;
     while p < to {
         mark_name(sort, nodes, p, on, marks);

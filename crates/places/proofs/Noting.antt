@@ -1,7 +1,7 @@
 -- A table of nodes, name by name; and a loop that notes: after the nodes from `from` up to p, those of them that pass the test G were noted.
-use Prim.Native.Nat.{ℕ, suc, _+_, _-_, _<_, _≤_}
+use Prim.Native.Nat.{ℕ, suc, _+_, _-_, _≤_}
 use mathlib.Core.Path.{_≡_, refl, ap, sym}
-use mathlib.Core.Bool.{Bool, false}
+use mathlib.Core.Bool.{Bool}
 use mathlib.Core.List.{List, [], _∷_}
 use native.Mathlib.Omega.{arith}
 use lib.ListN.{getD, set}
@@ -12,7 +12,7 @@ use Rattle.nodes.proofs.Names.{marks-as, marks-put}
 pub use Rattle.nodes.proofs.Names.{marks-none as places-none}
 use Rattle.nodes.proofs.Parts.{ranged}
 use Rattle.nodes.proofs.Turns.{carries-in}
-use Rattle.nodes.proofs.Folding.{folded-none, folded-on, folding-done}
+use Rattle.nodes.proofs.Folding.{folding-done}
 use Rattle.nodes.proofs.Walking.{Walked}
 use Rattle.records.proofs.Sweep.{has-one, has-not}
 use Rattle.places.specs.declared.Note.{Note}
@@ -33,14 +33,6 @@ module _ {part : List ℕ} {b : ℕ} (W : View part b) (note : Note) (p : ℕ) {
       (marks-put (λ v y. noting note v y p) (W .image) F r (number (W .image) (p + 1)) _ (ap (λ (v : ℕ). taken note v p) (N .mark _ (g .0) (g .1))) (λ v. refl) (W .shown .admitted) (g .0) (g .1) N))
 
 -- The loop
-
-pub notes-start : (note : Note) (p : ℕ → Bool) (v a : ℕ) → notes note p v a (a - a) ≡ v
-unfolding notes
-notes-start note p v a = folded-none (λ i u. noting note u (p i) i) v a
-
-pub notes-on : (note : Note) (p : ℕ → Bool) (v a i q : ℕ) → a ≤ i → i < q → ((j : ℕ) → i < j → j < q → p j ≡ false) → notes note p v a (q - a) ≡ noting note (notes note p v a (i - a)) (p i) i
-unfolding notes
-notes-on note p v a i q l h z = folded-on (λ i u. noting note u (p i) i) v a i q l h (λ j g k u. ap (λ (b : Bool). noting note u b j) (z j g k))
 
 -- The invariant of every loop that notes: the nodes of kind ks below a, up to p, have been noted for their Names.
 abbrev pub Noting : Note → {X : Type 0} {part : List ℕ} {base : ℕ} → (X → View part base) → List ℕ → ℕ → ℕ → List ℕ → List ℕ → ℕ → Type 0

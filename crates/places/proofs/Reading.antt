@@ -8,7 +8,7 @@ use native.Mathlib.Omega.{arith}
 use borrow.Author.Tests.{ne-eqb, lt-ltb, ltb-true, ltb-false, le-leb, leb-true}
 use lib.Dec.{ltb, leb}
 use Rattle.image.specs.Pick.{both}
-use Rattle.image.proofs.Marked.{eq-or-ne}
+use Rattle.image.proofs.Decide.{eq-or-ne}
 use Rattle.rules.specs.Sweep.{also, has}
 use Rattle.rules.specs.Tree.{Tree, tree}
 use Rattle.rules.specs.Vocabulary.{Below, someBelow, Named, named, Declares, declares, firstNamed}
@@ -93,7 +93,7 @@ module _ (t : Tree) (ks : List ℕ) (a : ℕ) (w : List ℕ) where
     named-not n l h N = true≢false (sym (at-tells v .back (N .0 .kind, N .1)) ∙ n v l h)
 
   -- the first is the first, and 0 where there is none
-  pub first-is : 0 < firstOf t ks a w → vocabulary.First (Named t ks a w) (firstOf t ks a w)
+  pub first-is : 0 < firstOf t ks a w → vocabulary.IsFirst (Named t ks a w) (firstOf t ks a w)
   unfolding notesBelow
   first-is l = ⊎-elim (λ h. let e = h .0 in absurd (omega arith)) (λ h. record { is = named-so (h .0); none = λ j g N. let b = N .0 .after in named-not (h .1) b g N }) (first-or (isNamed t ks w) (suc a) (omega arith) (t .end a - suc a))
 
@@ -102,7 +102,7 @@ module _ (t : Tree) (ks : List ℕ) (a : ℕ) (w : List ℕ) where
   first-absent e i N = ⊎-elim (λ h. let b = N .0 .after in let c = N .0 .inside in named-not (h .1) b (omega arith) N) (λ h. let l = h .0 .low in omega arith) (first-or (isNamed t ks w) (suc a) (omega arith) (t .end a - suc a))
 
   -- the last is the last
-  pub last-is : 0 < lastOf t ks a w → vocabulary.Last (Named t ks a w) (lastOf t ks a w)
+  pub last-is : 0 < lastOf t ks a w → vocabulary.IsLast (Named t ks a w) (lastOf t ks a w)
   unfolding notesBelow
   last-is l = ⊎-elim (λ h. let e = h .0 in absurd (omega arith)) (λ h. record { is = named-so (h .0); none = λ j g N. let c = N .0 .inside in named-not (h .1) g (omega arith) N }) (last-or (isNamed t ks w) (suc a) (t .end a - suc a))
 
@@ -141,7 +141,7 @@ module _ (t : Tree) (ks : List ℕ) (a : ℕ) (w : List ℕ) where
       go d n (inr q) true e = let N = first-is (omega (arith, q)) .is in absurd (n (firstOf t ks a w, N .0, (ltb-true _ _ e, N .1)))
 
   -- a test that only the last of them can pass
-  pub last-holds : (q : ℕ → Bool) → 0 < lastOf t ks a w → ((i : ℕ) → Below t ks a i → q i ≡ true → vocabulary.Last (Named t ks a w) i) → someBelow t ks a q ≡ q (lastOf t ks a w)
+  pub last-holds : (q : ℕ → Bool) → 0 < lastOf t ks a w → ((i : ℕ) → Below t ks a i → q i ≡ true → vocabulary.IsLast (Named t ks a w) i) → someBelow t ks a q ≡ q (lastOf t ks a w)
   last-holds q l h =
       one-fact {P = q (lastOf t ks a w) ≡ true}
       (record {
@@ -153,7 +153,7 @@ module _ (t : Tree) (ks : List ℕ) (a : ℕ) (w : List ℕ) where
       itself : (b : Bool) → Tells b (b ≡ true)
       itself b = record { so = λ e. e; back = λ e. e }
 
-      same-last : (i : ℕ) → vocabulary.Last (Named t ks a w) i → i ≡ lastOf t ks a w
+      same-last : (i : ℕ) → vocabulary.IsLast (Named t ks a w) i → i ≡ lastOf t ks a w
       same-last i L = go (ltb i (lastOf t ks a w)) refl (ltb (lastOf t ks a w) i) refl
         where
           go : (b : Bool) → ltb i (lastOf t ks a w) ≡ b → (c : Bool) → ltb (lastOf t ks a w) i ≡ c → i ≡ lastOf t ks a w

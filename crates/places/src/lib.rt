@@ -1,14 +1,15 @@
 // One node for each name: the first, or the last, of a kind below a node that has it as its Name ("met before", "no such Let in an earlier statement", "the event's last declaration" of document 01).
+use image::Image;
 ghost use mathlib.Core.Path.{_≡_};
 ghost use mathlib.Core.List.{List, [], _∷_};
 ghost use Prim.Native.Nat.{ℕ, _+_, _-_, _<_};
 ghost use Rattle.records.specs.Words.{old, new};
 ghost use Rattle.nodes.specs.Shown.{View, In, Worded, treeOf};
-ghost use Rattle.nodes.specs.First.{NameFirst, Declaring, NamedPart};
+ghost use Rattle.nodes.specs.First.{NameFirst, Declaring, NamedPart, HeadPart, Head, Until};
 ghost use Rattle.places.specs.Places.{Places, Notes, taken, noting, notesBelow, isNamed};
 
 // One node for each of 1,024 names, by name number less one; 0 where there is none.
-pub type Places = [u16; 1024];
+pub type Places = [u16; Image::NAMES];
 
 // What is noted for a name at a node that has it: that node, if none is noted yet; that node; none.
 pub enum Note {
@@ -71,15 +72,38 @@ pub fn note_names(note: Note, kind: usize, nodes: &[u8], places: &mut Places)
     }
 }
 
-// The same for the parameters or the Lets of an entry, by a walk over its children.
+// The parts of this kind of an entry are noted, by a walk over its children up to `to`, behind which none stands.
+fn note_until(note: Note, kind: usize, nodes: &[u8], entry: usize, to: usize, places: &mut Places)
+    requires { ⌜ NamedPart kind × Until (now nodes) 0 entry to kind ⌝ }
+    ensures { λ _. ⌜ Notes (λ (W : View (old nodes) 0). notesBelow note (treeOf W) (kind ∷ []) entry) places ⌝ }
+{
+    let mut p = entry + 1;
+    while p < to {
+        note_node(note, kind, nodes, p, places);
+        p = nodes::end(nodes, 0, p);
+    }
+}
+
+// The parameters or the Lets of an entry are noted.
 pub fn note_parts(note: Note, kind: usize, nodes: &[u8], entry: usize, places: &mut Places)
     requires { ⌜ NamedPart kind × View (now nodes) 0 × In (now nodes) 0 entry × (0 < entry) ⌝ }
     ensures { λ _. ⌜ Notes (λ (W : View (old nodes) 0). notesBelow note (treeOf W) (kind ∷ []) entry) places ⌝ }
 {
     let end = nodes::end(nodes, 0, entry);
-    let mut p = entry + 1;
-    while p < end {
-        note_node(note, kind, nodes, p, places);
-        p = nodes::end(nodes, 0, p);
-    }
+    note_until(note, kind, nodes, entry, end, places);
+}
+
+// The parameters of an entry are noted, all of which stand before `to`, its first statement.
+pub fn note_heads(
+    note: Note,
+    kind: usize,
+    nodes: &[u8],
+    entry: usize,
+    to: usize,
+    places: &mut Places,
+)
+    requires { ⌜ HeadPart kind × Head (now nodes) 0 entry to ⌝ }
+    ensures { λ _. ⌜ Notes (λ (W : View (old nodes) 0). notesBelow note (treeOf W) (kind ∷ []) entry) places ⌝ }
+{
+    note_until(note, kind, nodes, entry, to, places);
 }

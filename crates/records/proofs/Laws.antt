@@ -8,7 +8,7 @@ use native.Mathlib.Omega.{arith}
 use mathlib.Core.Bool.{Bool, true, false}
 use Rattle.rules.specs.Vocabulary.{Rec, rec, only}
 use Rattle.records.specs.declared.Hit.{Hit}
-use Rattle.records.specs.Records.{words, laid, Laid, Added, Asks, hits, AsksAt}
+use Rattle.records.specs.Records.{words, laid, Laid, Added, Asks, hitList, AsksAt}
 
 words-append : (a b : List Rec) → words (a ++ b) ≡ words a ++ words b
 words-append [] b = refl
@@ -57,7 +57,7 @@ module _ {hit : Bool} (r : Rec) {o : List ℕ} {k : ℕ} where
 pub asked : {X : Type 0} {F : X → List Rec} (c p : ℕ) (hit : Bool) {o o′ : List ℕ} {k k′ : ℕ} → Asks F c p hit → Added (λ (_ : Unit {0}). only hit (rec c p 0)) 1 o k o′ k′ → Added F 1 o k o′ k′
 asked c p hit q a = record { laid = λ x. laid-as (sym (q x)) (a .laid tt); few = a .few }
 
-pub asked-at : {X : Type 0} {F : X → List Rec} (c p : ℕ) (hit : Hit) {o o′ : List ℕ} {k k′ : ℕ} → AsksAt F c p hit → Added (λ (_ : Unit {0}). hits hit c p) 1 o k o′ k′ → Added F 1 o k o′ k′
+pub asked-at : {X : Type 0} {F : X → List Rec} (c p : ℕ) (hit : Hit) {o o′ : List ℕ} {k k′ : ℕ} → AsksAt F c p hit → Added (λ (_ : Unit {0}). hitList hit c p) 1 o k o′ k′ → Added F 1 o k o′ k′
 asked-at c p hit q a = record { laid = λ x. laid-as (sym (q x)) (a .laid tt); few = a .few }
 
 pub added-long : {X : Type 0} {F : X → List Rec} {most : ℕ} {o o′ : List ℕ} {k k′ : ℕ} → Added F most o k o′ k′ → X → length o′ ≡ length o

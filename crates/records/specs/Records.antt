@@ -1,22 +1,14 @@
--- What a run of records leaves in a buffer of words ("List record" of document 01): three words a record, code, place, related; words past the last record keep their values.
-use Prim.Native.Nat.{ℕ, _+_, _*_, _≤_}
+-- What a run of records leaves in a buffer of words: `words`, `laid` of the rules; and what functions that add records promise.
+use Prim.Native.Nat.{ℕ, _+_, _≤_}
 use mathlib.Core.List.{List, [], _∷_}
 use mathlib.Core.Bool.{Bool}
 use mathlib.Core.Path.{_≡_}
 use lib.ListN.{length}
-use lib.Seq.{sets}
 use Rattle.rules.specs.Vocabulary.{Rec, rec, only}
+pub use Rattle.rules.specs.Answers.{words, laid}
 use Rattle.records.specs.Words.{Lent, old, new}
 use Rattle.records.specs.declared.Hit.{Hit}
 use Rattle.records.specs.declared.Hit.the-variants.{Nothing, At}
-
-abbrev pub words : List Rec → List ℕ
-words [] = []
-words (r ∷ rs) = r .code ∷ r .place ∷ r .related ∷ words rs
-
--- the buffer o with the records rs from the k-th record's place on; what does not fit is not written
-abbrev pub laid : List ℕ → ℕ → List Rec → List ℕ
-laid o k rs = sets o (3 * k) (words rs)
 
 -- the k₀ records before are followed by the records l: so many are counted then, and so the buffer stands
 pub record Laid (o₀ : List ℕ) (k₀ : ℕ) (l : List Rec) (o : List ℕ) (k : ℕ) : Type 0 where
@@ -37,9 +29,9 @@ abbrev pub Asks : {X : Type 0} → (X → List Rec) → ℕ → ℕ → Bool →
 Asks {X} F c p r = (x : X) → F x ≡ only r (rec c p 0)
 
 -- where a record has something related: what an answer says; a question answers what a rule gives
-abbrev pub hits : Hit → ℕ → ℕ → List Rec
-hits Nothing c p = []
-hits (At q) c p = rec c p q ∷ []
+abbrev pub hitList : Hit → ℕ → ℕ → List Rec
+hitList Nothing c p = []
+hitList (At q) c p = rec c p q ∷ []
 
 abbrev pub AsksAt : {X : Type 0} → (X → List Rec) → ℕ → ℕ → Hit → Type 0
-AsksAt {X} F c p r = (x : X) → F x ≡ hits r c p
+AsksAt {X} F c p r = (x : X) → F x ≡ hitList r c p

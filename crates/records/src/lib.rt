@@ -5,7 +5,7 @@ ghost use Prim.Native.Nat.{ℕ, _+_, _*_, _<_, _≤_, _^_};
 ghost use lib.ListN.{length, set};
 ghost use Rattle.rules.specs.Vocabulary.{rec, only};
 ghost use Rattle.records.specs.Words.{old, new};
-ghost use Rattle.records.specs.Records.{Adds, hits};
+ghost use Rattle.records.specs.Records.{Adds, hitList};
 
 // Stores w at i, if the buffer has such a word.
 fn put(out: &mut [u16], i: usize, w: u16)
@@ -47,7 +47,7 @@ pub enum Hit {
 // The record of a rule that asks about node `place`, if it answers one.
 pub fn emit_hit(hit: Hit, out: &mut [u16], count: usize, code: u16, place: usize) -> usize
     requires { ⌜ (count < 2 ^ 60) × (place < 65536) ⌝ }
-    ensures { λ r. ⌜ Adds (λ (_ : Unit {0}). hits hit code place) 1 out count r ⌝ }
+    ensures { λ r. ⌜ Adds (λ (_ : Unit {0}). hitList hit code place) 1 out count r ⌝ }
 {
     match hit {
         Hit::Nothing => count,

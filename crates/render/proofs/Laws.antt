@@ -8,7 +8,7 @@ use borrow.Author.Tests.{eq-eqb, ne-eqb, ltb-true, ltb-false}
 use lib.Dec.{ltb}
 use lib.ListN.{length, length-append, getD}
 use Rattle.image.specs.Pick.{pick}
-use Rattle.image.specs.Admit.{refusal, verdict}
+use Rattle.image.specs.Admit.{refusal, admissionOf}
 use Rattle.image.specs.declared.Admission.the-variants.{Refused}
 use Rattle.image.proofs.Verdict.{refused-is}
 use Rattle.rules.specs.Sweep.{run}
@@ -19,7 +19,7 @@ use Rattle.rules.specs.Spelling.{bytes}
 use Rattle.rules.specs.Resolve.{resolve}
 use Rattle.rules.specs.Access.{access}
 use Rattle.rules.specs.Linear.{linear}
-use Rattle.rules.specs.Answers.{Answer, passAnswer, spanFrom, spanTo, words, Listing, listRefused, listed, listAnswer, listBuffer}
+use Rattle.rules.specs.Answers.{Answer, passAnswer, spanFrom, spanTo, words, ListReply, listRefused, listHas, listAnswer, listBuffer}
 use Rattle.rules.proofs.Answers.{list-short, list-listed, buffer-listed, buffer-long, laid-written}
 use Rattle.records.proofs.Sweep.{run-none, run-next, run-split}
 use Rattle.typeck.specs.declared.Listed.{Listed}
@@ -27,15 +27,19 @@ use Rattle.typeck.specs.declared.Listed.the-variants as the
 use Rattle.typeck.specs.declared.Verdict.{Verdict}
 use Rattle.typeck.specs.Face.{Stands, answerOf, listingOf, listedOf}
 use Rattle.typeck.proofs.Laws.{refused-number}
-use Rattle.lines.specs.Line.{digits, rest, Wrote}
-use Rattle.lines.proofs.Laws.{wrote-join, few-five, few-ten, rest-length}
+use Rattle.lines.specs.Line.{digits, rest, Printed}
+use Rattle.lines.proofs.Laws.{wrote-join, wrote-as, few-five, few-ten, rest-length}
 use Rattle.render.specs.Report.{passLine, recordLine, recordLines, listLines, reportText, lineAt}
 
 -- the line of a pass
-pub pass-is : (name : List ℕ) {v w : Verdict} {o o₁ o₂ : List ℕ} {at k r : ℕ} → v ≡ w → length name < 2 ^ 10 → Wrote o at name o₁ k
-    → (Wrote o₁ k (rest (answerOf w .number ∷ answerOf w .place ∷ answerOf w .from ∷ answerOf w .to ∷ [])) o₂ r × (r ≤ k + 85))
-    → Wrote o at (passLine name (answerOf v)) o₂ r × (r ≤ at + 2 ^ 11)
+pub pass-is : (name : List ℕ) {v w : Verdict} {o o₁ o₂ : List ℕ} {at k r : ℕ} → v ≡ w → length name < 2 ^ 10 → Printed o at name o₁ k
+    → (Printed o₁ k (rest (answerOf w .number ∷ answerOf w .place ∷ answerOf w .from ∷ answerOf w .to ∷ [])) o₂ r × (r ≤ k + 85))
+    → Printed o at (passLine name (answerOf v)) o₂ r × (r ≤ at + 2 ^ 11)
 pass-is name e h W R = let n = W .count in let b = R .1 in (rw e (wrote-join W (R .0)), omega arith)
+
+-- a word, and the one number after it
+pub line-few : {o o₁ o₂ a b t : List ℕ} {at k r : ℕ} (most : ℕ) → length a + 22 ≤ most → a ++ b ≡ t → Printed o at a o₁ k → (Printed o₁ k b o₂ r × (r ≤ k + 22)) → Printed o at t o₂ r × (r ≤ at + most)
+line-few most l e W R = let n = W .count in let b = R .1 in (wrote-as e (wrote-join W (R .0)), omega arith)
 
 -- the line of a record
 pub record-is : (s : List ℕ) (code place related f t : ℕ) → f ≡ spanFrom s place → t ≡ spanTo s place
@@ -85,13 +89,13 @@ lines-from s w (r ∷ l) k h =
     ∙ ap (λ (t : List ℕ). recordLine s r ++ t) (lines-from s w l (k + 1) later)
 
 -- the lines of the list, from what it answers and what it leaves in its buffer
-module _ (s o w : List ℕ) (count : ℕ) (e : refusal s ≡ 0) (a : listed count ≡ listAnswer s (length o)) (b : w ≡ listBuffer s o) where
+module _ (s o w : List ℕ) (count : ℕ) (e : refusal s ≡ 0) (a : listHas count ≡ listAnswer s (length o)) (b : w ≡ listBuffer s o) where
   many : (count ≡ length (offences (tree s))) × (3 * length (offences (tree s)) ≤ length o)
   many = go (ltb (length o) (3 * length (offences (tree s)))) refl
     where
       go : (t : Bool) → ltb (length o) (3 * length (offences (tree s))) ≡ t → (count ≡ length (offences (tree s))) × (3 * length (offences (tree s)) ≤ length o)
-      go true q = let z : _≡_ {A = ℕ} 0 9 = ap (λ (l : Listing). l .number) (a ∙ list-short s (length o) e (ltb-true _ _ q)) in absurd (omega arith)
-      go false q = let l = ltb-false (length o) (3 * length (offences (tree s))) q in (ap (λ (x : Listing). x .records) (a ∙ list-listed s (length o) e l), l)
+      go true q = let z : _≡_ {A = ℕ} 0 9 = ap (λ (l : ListReply). l .number) (a ∙ list-short s (length o) e (ltb-true _ _ q)) in absurd (omega arith)
+      go false q = let l = ltb-false (length o) (3 * length (offences (tree s))) q in (ap (λ (x : ListReply). x .records) (a ∙ list-listed s (length o) e l), l)
 
   pub records-fit : (3 * count ≤ length w) × (length w ≡ length o)
   records-fit =
@@ -114,7 +118,7 @@ abbrev tag : Listed → ℕ
 tag (the.Refused r) = 1
 tag (the.Records k) = 0
 
-not-zero : {n : Listing} (r : ℕ) → Stands listingOf listedOf n (the.Refused r) → r ≡ 0 → ⊥
+not-zero : {n : ListReply} (r : ℕ) → Stands listingOf listedOf n (the.Refused r) → r ≡ 0 → ⊥
 not-zero {n} r p z =
     let e : the.Refused r ≡ listedOf (listRefused r) = p .case ∙ ap listedOf (sym (p .numbers)) in
     let f : the.Refused r ≡ the.Records 0 = e ∙ ap (λ (b : Bool). pick b (the.Records 0) (the.Refused r)) (eq-eqb r 0 z) in
@@ -129,7 +133,7 @@ lines-refused s o v r size f e q =
     ∙ ap (listLines s) (p .numbers ∙ ap (listAnswer s) f)
 
 -- the whole report
-pub report-refused : (s : List ℕ) (k : ℕ) → verdict (refusal s) s ≡ Refused k → bytes "image" ++ rest (k ∷ []) ≡ reportText s
+pub report-refused : (s : List ℕ) (k : ℕ) → admissionOf (refusal s) s ≡ Refused k → bytes "image" ++ rest (k ∷ []) ≡ reportText s
 unfolding reportText
 report-refused s k e =
     let n = ne-eqb (refusal s) 0 (refused-is (refusal s) s k e) in

@@ -4,7 +4,7 @@ use mathlib.Core.Path.{_≡_, refl}
 use mathlib.Core.List.{List, [], _∷_, _++_}
 use Prim.Native.String.{String}
 use Rattle.rules.specs.Spelling.{bytes}
-use Rattle.rules.specs.Packed.{image, contract, entry, param, type, name}
+use Rattle.rules.specs.Packed.{imageOf, a-contract, an-entry, a-param, a-type, a-name}
 use Rattle.rules.specs.Outcome.{filled}
 use Rattle.lines.specs.Line.{digits, rest}
 use Rattle.render.specs.Report.{recordLines, reportText}
@@ -13,16 +13,16 @@ abbrev line : String → List ℕ
 line w = bytes w ++ (10 ∷ [])
 
 pub example :
-    reportText (image (contract (name "c" ++ entry (name "e" ++ param (name "x" ++ type (name "Q_Asset"))))))
+    reportText (imageOf (a-contract (a-name "c" ++ an-entry (a-name "e" ++ a-param (a-name "x" ++ a-type (a-name "Q_Asset"))))))
     ≡ line "resolve 0 0 0 0"
     ++ line "access 0 0 0 0"
     ++ line "linear 61 5 50 51"
     ++ line "list 1"
     ++ line "61 5 0 50 51"
-unfolding image filled bytes digits rest recordLines reportText
+unfolding imageOf filled bytes digits rest recordLines reportText
 example = refl
 
 -- a refused image: no bytes at all
 pub none : reportText [] ≡ line "image 1"
-unfolding image filled bytes digits rest recordLines reportText
+unfolding imageOf filled bytes digits rest recordLines reportText
 none = refl

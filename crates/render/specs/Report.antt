@@ -14,7 +14,7 @@ use Rattle.rules.specs.Access.{access}
 use Rattle.rules.specs.Linear.{linear}
 use Rattle.rules.specs.All.{offences}
 use Rattle.lines.specs.Line.{decimal, rest}
-use Rattle.rules.specs.Answers.{Answer, passAnswer, spanFrom, spanTo, Listing, listAnswer}
+use Rattle.rules.specs.Answers.{Answer, passAnswer, spanFrom, spanTo, ListReply, listAnswer}
 
 -- the line of a pass
 abbrev pub passLine : List ℕ → Answer → List ℕ
@@ -29,7 +29,7 @@ recordLines s [] = []
 recordLines s (r ∷ l) = recordLine s r ++ recordLines s l
 
 -- the lines of the list
-abbrev pub listLines : List ℕ → Listing → List ℕ
+abbrev pub listLines : List ℕ → ListReply → List ℕ
 listLines s a =
     pick (eqb (a .number) 0)
     (bytes "list" ++ (rest (a .records ∷ []) ++ recordLines s (offences (tree s))))

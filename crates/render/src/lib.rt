@@ -12,13 +12,13 @@ ghost use Rattle.rules.specs.Answers.{listAnswer};
 ghost use Rattle.records.specs.Words.{old, new};
 ghost use Rattle.nodes.specs.Shown.{Admitted};
 ghost use Rattle.typeck.specs.Face.{answerOf};
-ghost use Rattle.lines.specs.Line.{Wrote};
+ghost use Rattle.lines.specs.Line.{Printed};
 ghost use Rattle.render.specs.Report.{passLine, recordLine, listLines, reportText, lineAt};
 
 // The line of a pass.
 fn pass_line(name: &[u8], v: Verdict, out: &mut [u8], at: usize) -> usize
     requires { ⌜ (at < 2 ^ 50) × (length (now name) < 2 ^ 10) ⌝ }
-    ensures { λ r. ⌜ Wrote (old out) at (passLine (old name) (answerOf v)) (new out) r × (r ≤ at + 2 ^ 11) ⌝ }
+    ensures { λ r. ⌜ Printed (old out) at (passLine (old name) (answerOf v)) (new out) r × (r ≤ at + 2 ^ 11) ⌝ }
 {
     let k = lines::text(name, out, at);
     match v {
@@ -51,7 +51,7 @@ fn record_line(
     at: usize,
 ) -> usize
     requires { ⌜ Admitted (now image) head × (at < 2 ^ 56) × (code < 65536) × (place < 65536) × (related < 65536) ⌝ }
-    ensures { λ r. ⌜ Wrote (old out) at (recordLine (old image) (rec code place related)) (new out) r × (r ≤ at + 40) ⌝ }
+    ensures { λ r. ⌜ Printed (old out) at (recordLine (old image) (rec code place related)) (new out) r × (r ≤ at + 40) ⌝ }
 {
     let span = spans::of_place(image, head, place);
     let from = span.from;
@@ -76,7 +76,7 @@ fn record_lines(
     at: usize,
 ) -> usize
     requires { ⌜ Admitted (now image) head × (3 * count ≤ length (now words)) × (length (now words) ≤ 2 ^ 16) × (at < 2 ^ 52) ⌝ }
-    ensures { λ r. ⌜ Wrote (old out) at (run (lineAt (old image) (old words)) 0 count) (new out) r × (r ≤ at + 40 * count) ⌝ }
+    ensures { λ r. ⌜ Printed (old out) at (run (lineAt (old image) (old words)) 0 count) (new out) r × (r ≤ at + 40 * count) ⌝ }
 {
     let mut i = 0;
     let mut k = at;
@@ -93,7 +93,7 @@ fn record_lines(
 // The lines of the list.
 fn list_lines(image: &[u8], head: Image, out: &mut [u8], at: usize) -> usize
     requires { ⌜ Admitted (now image) head × (at < 2 ^ 51) ⌝ }
-    ensures { λ r. ⌜ Wrote (old out) at (listLines (old image) (listAnswer (old image) 32768)) (new out) r × (r ≤ at + 437000) ⌝ }
+    ensures { λ r. ⌜ Printed (old out) at (listLines (old image) (listAnswer (old image) 32768)) (new out) r × (r ≤ at + 437000) ⌝ }
 {
     let mut words = [0u16; 32768];
     match typeck::list(image, &mut words) {
@@ -111,7 +111,7 @@ fn list_lines(image: &[u8], head: Image, out: &mut [u8], at: usize) -> usize
 
 // The report of an image; none is longer than 450,000 bytes.
 pub fn render(image: &[u8], out: &mut [u8]) -> usize
-    ensures { λ r. ⌜ Wrote (old out) 0 (reportText (old image)) (new out) r ⌝ }
+    ensures { λ r. ⌜ Printed (old out) 0 (reportText (old image)) (new out) r ⌝ }
     ensures { λ r. ⌜ r ≤ 450000 ⌝ }
 {
     match image::admit(image) {

@@ -6,7 +6,7 @@ use typeck::Verdict;
 ghost use mathlib.Core.Path.{_≡_};
 ghost use Prim.Native.Nat.{_+_, _<_, _≤_};
 ghost use lib.ListN.{length, getD};
-ghost use Rattle.image.specs.Node.{half, word};
+ghost use Rattle.image.specs.Node.{half, fullWord};
 ghost use Rattle.records.specs.Words.{old};
 
 fn wide(b: u8) -> usize
@@ -43,7 +43,7 @@ pub fn u16_at(s: &[u8], at: usize) -> usize
 
 pub fn u32_at(s: &[u8], at: usize) -> usize
     requires { ⌜ at + 4 ≤ length (now s) ⌝ }
-    ensures { λ r. ⌜ (r ≡ word (old s) at) × (r < 4294967296) ⌝ }
+    ensures { λ r. ⌜ (r ≡ fullWord (old s) at) × (r < 4294967296) ⌝ }
 {
     u16_at(s, at) + 65536 * u16_at(s, at + 2)
 }

@@ -15,14 +15,14 @@ use Rattle.names.specs.Found.{Numbered}
 use Rattle.resolve_calls.specs.Called.{isBuiltin, isMethod}
 
 -- the number of `mint_asset`, and the state names
-pub record Named (nodes : List ℕ) (mint : ℕ) (state : List Bool) : Type 0 where
+pub record LentFirst (nodes : List ℕ) (mint : ℕ) (state : List Bool) : Type 0 where
   pub view : View nodes 0
   pub root : In nodes 0 0
   pub mint-number : Numbered (view .image) mint-asset mint
   pub state-marks : Marks (view .image) (isState (treeOf view)) state
 
 -- the state names, and the words that a Call may call
-pub record Worded (nodes : List ℕ) (state builtin method : List Bool) : Type 0 where
+pub record CallTables (nodes : List ℕ) (state builtin method : List Bool) : Type 0 where
   pub view : View nodes 0
   pub state-marks : Marks (view .image) (isState (treeOf view)) state
   pub builtin-marks : Marks (view .image) isBuiltin builtin
@@ -38,7 +38,7 @@ pub record Called (nodes : List ℕ) (address : ℕ) (fields params builtin meth
   pub method-marks : Marks (view .image) isMethod method
 
 -- also the state names, the declared assets and the known assets
-pub record Tables (nodes : List ℕ) (address : ℕ) (state declared known fields params builtin method : List Bool) : Type 0 where
+pub record ResolveTables (nodes : List ℕ) (address : ℕ) (state declared known fields params builtin method : List Bool) : Type 0 where
   pub called : Called nodes address fields params builtin method
   pub state-marks : Marks (called .view .image) (isState (treeOf (called .view))) state
   pub declared-marks : Marks (called .view .image) (isDeclaredAsset (treeOf (called .view))) declared
@@ -58,18 +58,18 @@ abbrev pub firstGroups : Tree → List Rec
 firstGroups t = group20 t ++ (group21 t ++ (group22 t ++ (group23 t ++ (group24 t ++ group30 t))))
 
 -- what F says of the tree of the nodes that are lent, by each of these
-abbrev pub named : (Tree → List Rec) → (nodes : Lent (List ℕ)) (mint : ℕ) (state : Lent (List Bool)) → Named (old nodes) mint (old state) → List Rec
-named F nodes mint state T = F (treeOf (T .view))
+abbrev pub lentFirst : (Tree → List Rec) → (nodes : Lent (List ℕ)) (mint : ℕ) (state : Lent (List Bool)) → LentFirst (old nodes) mint (old state) → List Rec
+lentFirst F nodes mint state T = F (treeOf (T .view))
 
-abbrev pub worded : (Tree → List Rec) → (nodes : Lent (List ℕ)) (state builtin method : Lent (List Bool)) → Worded (old nodes) (old state) (old builtin) (old method) → List Rec
+abbrev pub worded : (Tree → List Rec) → (nodes : Lent (List ℕ)) (state builtin method : Lent (List Bool)) → CallTables (old nodes) (old state) (old builtin) (old method) → List Rec
 worded F nodes state builtin method T = F (treeOf (T .view))
 
 abbrev pub called : (Tree → List Rec) → (nodes : Lent (List ℕ)) (address : ℕ) (fields params builtin method : Lent (List Bool)) → Called (old nodes) address (old fields) (old params) (old builtin) (old method) → List Rec
 called F nodes address fields params builtin method T = F (treeOf (T .view))
 
-abbrev pub lent : (Tree → List Rec) → (nodes : Lent (List ℕ)) (address : ℕ) (state declared known fields params builtin method : Lent (List Bool)) → Tables (old nodes) address (old state) (old declared) (old known) (old fields) (old params) (old builtin) (old method) → List Rec
+abbrev pub lent : (Tree → List Rec) → (nodes : Lent (List ℕ)) (address : ℕ) (state declared known fields params builtin method : Lent (List Bool)) → ResolveTables (old nodes) address (old state) (old declared) (old known) (old fields) (old params) (old builtin) (old method) → List Rec
 lent F nodes address state declared known fields params builtin method T = F (treeOf (T .called .view))
 
 -- no parameter is marked afterwards
-abbrev pub Cleans : (nodes : Lent (List ℕ)) (address : ℕ) (fields params builtin method : Lent (List Bool)) → Type 0
-Cleans nodes address fields params builtin method = (T : Called (old nodes) address (old fields) (old params) (old builtin) (old method)) → Marks (T .view .image) (λ w. false) (new params)
+abbrev pub CleansParams : (nodes : Lent (List ℕ)) (address : ℕ) (fields params builtin method : Lent (List Bool)) → Type 0
+CleansParams nodes address fields params builtin method = (T : Called (old nodes) address (old fields) (old params) (old builtin) (old method)) → Marks (T .view .image) (λ w. false) (new params)

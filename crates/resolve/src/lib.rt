@@ -13,12 +13,12 @@ ghost use Rattle.records.specs.Words.{old, new};
 ghost use Rattle.records.specs.Records.{Adds};
 ghost use Rattle.nodes.specs.Shown.{In, Admitted};
 ghost use Rattle.resolve_clauses.specs.Said.{IsEntry};
-ghost use Rattle.resolve.specs.Tables.{Named, Worded, Called, Tables, item33, entryCalls, item35, firstGroups, named, worded, called, lent, Cleans};
+ghost use Rattle.resolve.specs.Tables.{LentFirst, CallTables, Called, ResolveTables, item33, entryCalls, item35, firstGroups, lentFirst, worded, called, lent, CleansParams};
 
 // 20, 21, 22, 23, 24 to 29, 30 and 31; `mint_asset` has the number `mint`.
 fn first_groups(nodes: &[u8], mint: usize, state: &Marks, out: &mut [u16]) -> usize
-    requires { ⌜ Named (now nodes) mint (now state) ⌝ }
-    ensures { λ r. ⌜ Adds (named firstGroups nodes mint state) (2 ^ 35) out 0 r ⌝ }
+    requires { ⌜ LentFirst (now nodes) mint (now state) ⌝ }
+    ensures { λ r. ⌜ Adds (lentFirst firstGroups nodes mint state) (2 ^ 35) out 0 r ⌝ }
 {
     let fields = resolve_names::group20(nodes, out, 0);
     let events = resolve_names::group21(nodes, out, fields);
@@ -38,7 +38,7 @@ fn genesis(
     out: &mut [u16],
     count: usize,
 ) -> usize
-    requires { ⌜ Worded (now nodes) (now state) (now builtin) (now method) × In (now nodes) 0 item × (0 < item) × (count < 2 ^ 48) ⌝ }
+    requires { ⌜ CallTables (now nodes) (now state) (now builtin) (now method) × In (now nodes) 0 item × (0 < item) × (count < 2 ^ 48) ⌝ }
     ensures { λ r. ⌜ Adds (worded (item33 item) nodes state builtin method) 4096 out count r ⌝ }
 {
     if nodes::kind(nodes, 0, item) != GENESIS {
@@ -59,7 +59,7 @@ fn group33(
     out: &mut [u16],
     count: usize,
 ) -> usize
-    requires { ⌜ Worded (now nodes) (now state) (now builtin) (now method) × In (now nodes) 0 0 × (count < 2 ^ 40) ⌝ }
+    requires { ⌜ CallTables (now nodes) (now state) (now builtin) (now method) × In (now nodes) 0 0 × (count < 2 ^ 40) ⌝ }
     ensures { λ r. ⌜ Adds (worded group33 nodes state builtin method) (4096 * 2048) out count r ⌝ }
 {
     let end = nodes::end(nodes, 0, 0);
@@ -86,7 +86,7 @@ fn entry_calls(
 ) -> usize
     requires { ⌜ Called (now nodes) address (now fields) (now params) (now builtin) (now method) × IsEntry (now nodes) entry × (count < 2 ^ 48) ⌝ }
     ensures { λ r. ⌜ Adds (called (entryCalls entry) nodes address fields params builtin method) 4096 out count r ⌝ }
-    ensures { λ _. ⌜ Cleans nodes address fields params builtin method ⌝ }
+    ensures { λ _. ⌜ CleansParams nodes address fields params builtin method ⌝ }
 {
     resolve_calls::mark_params(nodes, entry, address, true, params);
     let first = nodes::first_statement(nodes, 0, entry);
@@ -111,9 +111,9 @@ fn entry(
     out: &mut [u16],
     count: usize,
 ) -> usize
-    requires { ⌜ Tables (now nodes) address (now state) (now declared) (now known) (now fields) (now params) (now builtin) (now method) × In (now nodes) 0 item × (0 < item) × (count < 2 ^ 44) ⌝ }
+    requires { ⌜ ResolveTables (now nodes) address (now state) (now declared) (now known) (now fields) (now params) (now builtin) (now method) × In (now nodes) 0 item × (0 < item) × (count < 2 ^ 44) ⌝ }
     ensures { λ r. ⌜ Adds (lent (item35 item) nodes address state declared known fields params builtin method) (2 ^ 23) out count r ⌝ }
-    ensures { λ _. ⌜ Cleans nodes address fields params builtin method ⌝ }
+    ensures { λ _. ⌜ CleansParams nodes address fields params builtin method ⌝ }
 {
     if nodes::kind(nodes, 0, item) != ENTRY {
         return count;
@@ -147,7 +147,7 @@ fn group35(
     out: &mut [u16],
     count: usize,
 ) -> usize
-    requires { ⌜ Tables (now nodes) address (now state) (now declared) (now known) (now fields) (now params) (now builtin) (now method) × In (now nodes) 0 0 × (count < 2 ^ 40) ⌝ }
+    requires { ⌜ ResolveTables (now nodes) address (now state) (now declared) (now known) (now fields) (now params) (now builtin) (now method) × In (now nodes) 0 0 × (count < 2 ^ 40) ⌝ }
     ensures { λ r. ⌜ Adds (lent group35 nodes address state declared known fields params builtin method) (2 ^ 34) out count r ⌝ }
 {
     let end = nodes::end(nodes, 0, 0);
@@ -179,20 +179,20 @@ pub fn list(image: &[u8], head: Image, out: &mut [u16]) -> usize
     ensures { λ r. ⌜ Adds (λ (_ : Unit {0}). resolve (tree (old image))) (2 ^ 38) out 0 r ⌝ }
 {
     let nodes = nodes::area(image, head);
-    let mut state = [false; 1024];
+    let mut state = [false; Image::NAMES];
     model::mark_state(nodes, &mut state);
-    let mut declared = [false; 1024];
+    let mut declared = [false; Image::NAMES];
     model::mark_declared(nodes, &mut declared);
-    let mut known = [false; 1024];
+    let mut known = [false; Image::NAMES];
     model::mark_known(image, head, &mut known);
     let address = names::number_of(image, head, b"Q_Address");
-    let mut fields = [false; 1024];
+    let mut fields = [false; Image::NAMES];
     resolve_calls::mark_fields(nodes, address, &mut fields);
-    let mut builtin = [false; 1024];
+    let mut builtin = [false; Image::NAMES];
     resolve_calls::mark_builtins(image, head, &mut builtin);
-    let mut method = [false; 1024];
+    let mut method = [false; Image::NAMES];
     resolve_calls::mark_methods(image, head, &mut method);
-    let mut params = [false; 1024];
+    let mut params = [false; Image::NAMES];
     let mint = names::number_of(image, head, b"mint_asset");
     let total = first_groups(nodes, mint, &state, out);
     let total = resolve_clauses::group32(image, head, out, total);

@@ -26,7 +26,7 @@ use Rattle.nodes.proofs.Shapes.{named-first, within}
 use Rattle.nodes.proofs.Turns.{marks-skip, marks-keep}
 use Rattle.nodes.proofs.Marking.{marking-none}
 use Rattle.names.proofs.Said.{unsaid}
-use Rattle.resolve_calls.specs.Called.{paramAt, paramTyped, fieldAt, Typing}
+use Rattle.resolve_calls.specs.Called.{paramAt, paramTyped, fieldAt, AddressTyping}
 
 -- the Name of a FieldDecl or a Param, and the Name of its Type
 module _ {part : List ℕ} {b p : ℕ} (W : View part b) (i : In part b p) where
@@ -53,7 +53,7 @@ module _ {part : List ℕ} {b p : ℕ} (W : View part b) (i : In part b p) where
   param-words k = words-at (param-of (nodesOf (W .image)) (nodeCount (W .image)) (formed W) p counted k)
 
 -- none is of a type that is no name of the image
-module _ {nodes : List ℕ} {address : ℕ} (T : Typing nodes address) (z : address < 1) where
+module _ {nodes : List ℕ} {address : ℕ} (T : AddressTyping nodes address) (z : address < 1) where
   pub no-field : In nodes 0 0 → (w : List ℕ) → isStateTyped (treeOf (T .view)) Q-Address w ≡ false
   no-field i w = not-so _ (λ e. go (tells-isStateTyped (treeOf (T .view)) Q-Address w .so e))
     where

@@ -32,12 +32,12 @@ pub record Minting (nodes : List ℕ) (base mint : ℕ) : Type 0 where
   pub view : View nodes base
   pub mint-number : Numbered (view .image) mint-asset mint
 
-pub record Typing (nodes : List ℕ) (address : ℕ) : Type 0 where
+pub record AddressTyping (nodes : List ℕ) (address : ℕ) : Type 0 where
   pub view : View nodes 0
   pub address-number : Numbered (view .image) Q-Address address
 
 -- with the words that a Call may call
-pub record Known (nodes : List ℕ) (base : ℕ) (builtin method : List Bool) : Type 0 where
+pub record CallWords (nodes : List ℕ) (base : ℕ) (builtin method : List Bool) : Type 0 where
   pub view : View nodes base
   pub builtin-marks : Marks (view .image) isBuiltin builtin
   pub method-marks : Marks (view .image) isMethod method
@@ -66,7 +66,7 @@ item22 p t = keep (has (t .kind p) bodied) (λ i. calls t i (rule22 t)) p
 abbrev pub minted : (Tree → List Rec) → (nodes : Lent (List ℕ)) (base mint : ℕ) → Minting (old nodes) base mint → List Rec
 minted F nodes base mint T = F (treeOf (T .view))
 
-abbrev pub known : (Tree → List Rec) → (nodes : Lent (List ℕ)) (base : ℕ) (builtin method : Lent (List Bool)) → Known (old nodes) base (old builtin) (old method) → List Rec
+abbrev pub known : (Tree → List Rec) → (nodes : Lent (List ℕ)) (base : ℕ) (builtin method : Lent (List Bool)) → CallWords (old nodes) base (old builtin) (old method) → List Rec
 known F nodes base builtin method T = F (treeOf (T .view))
 
 abbrev pub called : (Tree → ℕ → List Rec) → (nodes : Lent (List ℕ)) (base : ℕ) (fields params : Lent (List Bool)) → Calling (old nodes) base (old fields) (old params) → List Rec
@@ -76,7 +76,7 @@ called F nodes base fields params T = F (treeOf (T .view)) (T .entry)
 abbrev pub swept22 : (nodes : Lent (List ℕ)) (base mint : ℕ) → Minting (old nodes) base mint → List Rec
 swept22 nodes base mint T = run (λ p. at22 p (treeOf (T .view))) base (T .view .upto - base)
 
-abbrev pub swept34 : (nodes : Lent (List ℕ)) (base : ℕ) (builtin method : Lent (List Bool)) → Known (old nodes) base (old builtin) (old method) → List Rec
+abbrev pub swept34 : (nodes : Lent (List ℕ)) (base : ℕ) (builtin method : Lent (List Bool)) → CallWords (old nodes) base (old builtin) (old method) → List Rec
 swept34 nodes base builtin method T = run (λ p. at34 p (treeOf (T .view))) base (T .view .upto - base)
 
 abbrev pub swept40 : (nodes : Lent (List ℕ)) (base : ℕ) (fields params : Lent (List Bool)) → Calling (old nodes) base (old fields) (old params) → List Rec
@@ -87,9 +87,9 @@ abbrev pub fieldAt : Tree → List ℕ → ℕ → Bool
 fieldAt t w i = also (has (t .kind i) field) (named t w) i
 
 abbrev pub TypesField : (nodes : Lent (List ℕ)) (p address : ℕ) → Lent (List Bool) → Type 0
-TypesField nodes p address fields = (T : Typing (old nodes) address) (P : List ℕ → Bool) → Marks (T .view .image) P (old fields)
+TypesField nodes p address fields = (T : AddressTyping (old nodes) address) (P : List ℕ → Bool) → Marks (T .view .image) P (old fields)
     → Marks (T .view .image) (λ w. pick (fieldAt (treeOf (T .view)) w p) (typed (treeOf (T .view)) Q-Address p) (P w)) (new fields)
 
 -- the marks of the names that G finds, by the number of `Q_Address`, are set, or taken off
 abbrev pub TurnsTyped : Bool → (nodes : Lent (List ℕ)) (address : ℕ) → (Tree → List ℕ → Bool) → Lent (List Bool) → Type 0
-TurnsTyped on nodes address G params = Turned on (λ (T : Typing (old nodes) address). T .view .image) (λ T. G (treeOf (T .view))) (old params) (new params)
+TurnsTyped on nodes address G params = Turned on (λ (T : AddressTyping (old nodes) address). T .view .image) (λ T. G (treeOf (T .view))) (old params) (new params)

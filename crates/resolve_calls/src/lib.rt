@@ -22,11 +22,11 @@ ghost use Rattle.records.specs.Words.{old, new};
 ghost use Rattle.records.specs.Records.{Adds, Asks};
 ghost use Rattle.nodes.specs.Shown.{View, In, Admitted, treeOf};
 ghost use Rattle.nodes.specs.Marks.{Marks};
-ghost use Rattle.resolve_calls.specs.Called.{isBuiltin, isMethod, paramAt, paramTyped, Minting, Typing, Known, Calling, at22, at34, at40, item22, minted, known, called, swept22, swept34, swept40, TypesField, TurnsTyped};
+ghost use Rattle.resolve_calls.specs.Called.{isBuiltin, isMethod, paramAt, paramTyped, Minting, AddressTyping, CallWords, Calling, at22, at34, at40, item22, minted, known, called, swept22, swept34, swept40, TypesField, TurnsTyped};
 
 // 34 at a node of an item's statements: a Call of neither a word that may be called nor a method.
 fn rule34(nodes: &[u8], base: usize, p: usize, builtin: &Marks, method: &Marks) -> bool
-    requires { ⌜ Known (now nodes) base (now builtin) (now method) × In (now nodes) base p ⌝ }
+    requires { ⌜ CallWords (now nodes) base (now builtin) (now method) × In (now nodes) base p ⌝ }
     ensures { λ r. ⌜ Asks (known (at34 p) nodes base builtin method) 34 p r ⌝ }
 {
     if nodes::kind(nodes, base, p) != CALL {
@@ -47,7 +47,7 @@ pub fn calls34(
     out: &mut [u16],
     count: usize,
 ) -> usize
-    requires { ⌜ Known (now nodes) base (now builtin) (now method) × (count < 2 ^ 50) ⌝ }
+    requires { ⌜ CallWords (now nodes) base (now builtin) (now method) × (count < 2 ^ 50) ⌝ }
     ensures { λ r. ⌜ Adds (swept34 nodes base builtin method) 2048 out count r ⌝ }
 {
     let end = base + nodes.len() / 16;
@@ -143,7 +143,7 @@ pub fn mark_methods(image: &[u8], head: Image, method: &mut Marks)
 
 // A FieldDecl: the mark of its Name says whether it is of type `Q_Address`, which has the number `address`.
 fn mark_field(nodes: &[u8], p: usize, address: usize, fields: &mut Marks)
-    requires { ⌜ Typing (now nodes) address × In (now nodes) 0 p ⌝ }
+    requires { ⌜ AddressTyping (now nodes) address × In (now nodes) 0 p ⌝ }
     ensures { λ _. ⌜ TypesField nodes p address fields ⌝ }
 {
     if nodes::kind(nodes, 0, p) == FIELD_DECL {
@@ -154,8 +154,8 @@ fn mark_field(nodes: &[u8], p: usize, address: usize, fields: &mut Marks)
 
 // The marks of the state fields that are of type `Q_Address` by their last declaration; none where the image has no such name.
 pub fn mark_fields(nodes: &[u8], address: usize, fields: &mut Marks)
-    requires { ⌜ Typing (now nodes) address × In (now nodes) 0 0 ⌝ }
-    ensures { λ _. ⌜ ((T : Typing (old nodes) address) → Marks (T .view .image) (λ w. false) (old fields) → Marks (T .view .image) (isStateTyped (treeOf (T .view)) Q-Address) (new fields)) ⌝ }
+    requires { ⌜ AddressTyping (now nodes) address × In (now nodes) 0 0 ⌝ }
+    ensures { λ _. ⌜ ((T : AddressTyping (old nodes) address) → Marks (T .view .image) (λ w. false) (old fields) → Marks (T .view .image) (isStateTyped (treeOf (T .view)) Q-Address) (new fields)) ⌝ }
 {
     if address < 1 {
         return;
@@ -170,7 +170,7 @@ pub fn mark_fields(nodes: &[u8], address: usize, fields: &mut Marks)
 
 // A Param of type `Q_Address`: the mark of its Name is set, or taken off.
 fn mark_param(nodes: &[u8], p: usize, address: usize, on: bool, params: &mut Marks)
-    requires { ⌜ Typing (now nodes) address × In (now nodes) 0 p ⌝ }
+    requires { ⌜ AddressTyping (now nodes) address × In (now nodes) 0 p ⌝ }
     ensures { λ _. ⌜ TurnsTyped on nodes address (λ t w. also (has (t .kind p) param) (paramAt t w) p) params ⌝ }
 {
     if nodes::kind(nodes, 0, p) != PARAM {
@@ -183,7 +183,7 @@ fn mark_param(nodes: &[u8], p: usize, address: usize, on: bool, params: &mut Mar
 
 // The marks of an entry's parameters that are of type `Q_Address` are set, or taken off; none where the image has no such name.
 pub fn mark_params(nodes: &[u8], entry: usize, address: usize, on: bool, params: &mut Marks)
-    requires { ⌜ Typing (now nodes) address × In (now nodes) 0 entry × (0 < entry) ⌝ }
+    requires { ⌜ AddressTyping (now nodes) address × In (now nodes) 0 entry × (0 < entry) ⌝ }
     ensures { λ _. ⌜ TurnsTyped on nodes address (λ t w. paramTyped t entry w) params ⌝ }
 {
     if address < 1 {

@@ -2,7 +2,7 @@
 use Prim.Native.Nat.{ℕ, _-_, _<_, _≤_}
 use mathlib.Core.Path.{_≡_, refl, ap, _∙_, sym}
 use mathlib.Core.Bool.{Bool, true, false}
-use mathlib.Core.List.{List, [], _∷_, _++_, append-nil, List·Memᴰ, List·Memᴰ·head, List·Memᴰ·eq-of-singleton}
+use mathlib.Core.List.{List, [], _∷_, _++_, append-nil, List·Memᴰ·eq-of-singleton}
 use mathlib.Core.Logic.{inl, inr}
 use native.Mathlib.Omega.{arith}
 use borrow.Author.Tests.{ne-eqb}
@@ -28,10 +28,10 @@ use Rattle.nodes.proofs.Shapes.{within}
 use Rattle.nodes.proofs.Flat.{flat}
 use Rattle.names.specs.Found.{Numbered}
 use Rattle.names.proofs.Said.{unsaid}
-use Rattle.resolve_clauses.specs.Said.{Table, Deployed, identRules, item32}
+use Rattle.resolve_clauses.specs.Said.{OneTable, Deployed, identRules, item32}
 use Rattle.resolve_clauses.proofs.Hits.{signer-in}
 
-abbrev pub table-of : {nodes : List ℕ} {base : ℕ} {marks : List Bool} → Deployed nodes base marks → Table nodes base marks
+abbrev pub table-of : {nodes : List ℕ} {base : ℕ} {marks : List Bool} → Deployed nodes base marks → OneTable nodes base marks
 table-of T = record { view = T .view; says = λ w. same w deployer; tells = T .tells }
 
 -- the nodes of an image, and a fresh table in which the word was marked
@@ -48,7 +48,7 @@ unfolding has
 expressions-out k f = simp (ne-eqb k 19 (f 19 (omega arith) (omega arith)), ne-eqb k 20 (f 20 (omega arith) (omega arith)), ne-eqb k 21 (f 21 (omega arith) (omega arith)))
 
 -- the statements of an entry, lent as their own part
-abbrev pub lent-table : {nodes part : List ℕ} {marks : List Bool} {f : ℕ} (e : ℕ) (T : Deployed nodes 0 marks) → Shown (T .view .image) part f (treeOf (T .view) .end e) → Table part f marks
+abbrev pub lent-table : {nodes part : List ℕ} {marks : List Bool} {f : ℕ} (e : ℕ) (T : Deployed nodes 0 marks) → Shown (T .view .image) part f (treeOf (T .view) .end e) → OneTable part f marks
 lent-table e T S = record { view = record { image = T .view .image; upto = treeOf (T .view) .end e; shown = S }; says = λ w. same w deployer; tells = T .tells }
 
 pub lent-range : {s part : List ℕ} {f u to : ℕ} → Shown s part f u → u ≤ 2048 → to ≡ u → Span part f f to

@@ -11,13 +11,11 @@ use Rattle.image.specs.Admit.{nodesOf, nodeCount}
 use Rattle.image.proofs.Children.{Declared, Last, kid-is, param-of}
 use Rattle.rules.specs.Tree.{Tree}
 use Rattle.rules.specs.Vocabulary.{Rec, rec, only}
-use Rattle.records.specs.Records.{Added}
 use Rattle.records.proofs.Sweep.{keep-one, keep-none, has-one, has-not}
 use Rattle.nodes.specs.Shown.{View, In, Worded, treeOf}
 use Rattle.nodes.proofs.Parts.{inside, there, past, formed}
-use Rattle.nodes.proofs.Spans.{Span, span-below}
 use Rattle.resolve_clauses.specs.declared.Rule.{Rule}
-use Rattle.resolve_clauses.specs.Said.{Carrying, atWord, atNode, atSigner}
+use Rattle.resolve_clauses.specs.Said.{CarriesWord, atWord, atNode, atSigner}
 
 told : (a on : Bool) → pick on a (not a) ≡ Bool·beq a on
 told true true = refl
@@ -36,7 +34,7 @@ module _ (R : Rule) (P : List ℕ → Bool) (t : Tree) (p : ℕ) where
   pub node-one : t .kind p ≡ R .0 → atNode R P t p ≡ atWord R P t p
   node-one k = keep-one (atWord R P t) p (has-one (t .kind p) (R .0) k)
 
-pub carried : {j k : ℕ} → j ≡ k → Carrying k → Carrying j
+pub carried : {j k : ℕ} → j ≡ k → CarriesWord k → CarriesWord j
 carried e (inl h) = inl (e ∙ h)
 carried e (inr h) = inr (e ∙ h)
 

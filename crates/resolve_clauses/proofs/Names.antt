@@ -14,7 +14,7 @@ use Rattle.rules.specs.Model.{isState, isDeclaredAsset, isKnownAsset}
 use Rattle.rules.specs.Resolve.{rule33, clauseRule}
 use Rattle.records.proofs.Sweep.{run-same, keep-one, keep-none, has-one, has-not}
 use Rattle.nodes.specs.Shown.{treeOf}
-use Rattle.resolve_clauses.specs.Said.{Table, Assets, at33, clauseRules, clause36}
+use Rattle.resolve_clauses.specs.Said.{OneTable, AssetMarks, at33, clauseRules, clause36}
 
 module _ (t : Tree) (p : ℕ) where
   pub other-33 : (t .kind p ≡ 27 → ⊥) → at33 p t ≡ only false (rec 33 p 0)
@@ -81,12 +81,12 @@ module _ (t : Tree) (c : ℕ) where
   other-36 u v x y z = simp (ne-eqb (t .kind c) 14 u, ne-eqb (t .kind c) 15 v, ne-eqb (t .kind c) 16 x, ne-eqb (t .kind c) 17 y, ne-eqb (t .kind c) 18 z)
 
 -- one of the tables
-module _ {nodes : List ℕ} {state declared known : List Bool} (T : Assets nodes state declared known) where
-  abbrev pub by-state : Table nodes 0 state
+module _ {nodes : List ℕ} {state declared known : List Bool} (T : AssetMarks nodes state declared known) where
+  abbrev pub by-state : OneTable nodes 0 state
   by-state = record { view = T .view; says = isState (treeOf (T .view)); tells = T .state-marks }
 
-  abbrev pub by-declared : Table nodes 0 declared
+  abbrev pub by-declared : OneTable nodes 0 declared
   by-declared = record { view = T .view; says = isDeclaredAsset (treeOf (T .view)); tells = T .declared-marks }
 
-  abbrev pub by-known : Table nodes 0 known
+  abbrev pub by-known : OneTable nodes 0 known
   by-known = record { view = T .view; says = isKnownAsset (treeOf (T .view)); tells = T .known-marks }

@@ -1,11 +1,10 @@
 -- What the rules about words are lent: nodes, and tables by name number; what a table says gives a rule at a node.
-use Prim.Native.Nat.{ℕ, _+_, _*_, _-_, _<_, _≤_}
+use Prim.Native.Nat.{ℕ, _+_, _<_}
 use mathlib.Core.Path.{_≡_}
 use mathlib.Core.Bool.{Bool, not}
 use mathlib.Core.List.{List, [], _∷_}
 use mathlib.Core.Logic.{_⊎_}
 use lib.Dec.{ltb}
-use lib.ListN.{length}
 use Rattle.image.specs.Pick.{pick}
 use Rattle.rules.specs.Sweep.{keep, has, same}
 use Rattle.rules.specs.Tree.{Tree, name, param, naming, limits-denies-after, assign, ident}
@@ -20,7 +19,7 @@ use Rattle.nodes.specs.Marks.{Marks}
 use Rattle.resolve_clauses.specs.declared.Rule.{Rule}
 
 -- nodes with one table, whatever it says
-pub record Table (nodes : List ℕ) (base : ℕ) (marks : List Bool) : Type 0 where
+pub record OneTable (nodes : List ℕ) (base : ℕ) (marks : List Bool) : Type 0 where
   pub view : View nodes base
   pub says : List ℕ → Bool
   pub tells : Marks (view .image) says marks
@@ -31,15 +30,15 @@ pub record Deployed (nodes : List ℕ) (base : ℕ) (marks : List Bool) : Type 0
   pub tells : Marks (view .image) (λ w. same w deployer) marks
 
 -- the state names, the declared assets and the known assets
-pub record Assets (nodes : List ℕ) (state declared known : List Bool) : Type 0 where
+pub record AssetMarks (nodes : List ℕ) (state declared known : List Bool) : Type 0 where
   pub view : View nodes 0
   pub state-marks : Marks (view .image) (isState (treeOf view)) state
   pub declared-marks : Marks (view .image) (isDeclaredAsset (treeOf view)) declared
   pub known-marks : Marks (view .image) (isKnownAsset (treeOf view)) known
 
 -- a node of this kind carries a word
-abbrev pub Carrying : ℕ → Type 0
-Carrying k = (k ≡ 23) ⊎ (k ≡ 35)
+abbrev pub CarriesWord : ℕ → Type 0
+CarriesWord k = (k ≡ 23) ⊎ (k ≡ 35)
 
 -- node e is an Entry
 pub record IsEntry (nodes : List ℕ) (e : ℕ) : Type 0 where
@@ -66,7 +65,7 @@ abbrev pub clause32 : Tree → ℕ → List Rec
 clause32 t p = keep (has (t .kind p) limits-denies-after) (identRules t) p
 
 abbrev pub item32 : Tree → ℕ → List Rec
-item32 t p = keep (has (t .kind p) kinds.deployed) (deployerOf t) p
+item32 t p = keep (has (t .kind p) kinds.invariant-entry) (deployerOf t) p
 
 -- 33 at a node; 36 to 39 in a clause; in a child of an entry
 abbrev pub at33 : ℕ → Tree → List Rec
@@ -79,11 +78,11 @@ abbrev pub clause36 : Tree → ℕ → List Rec
 clause36 t p = keep (has (t .kind p) naming) (clauseRules t) p
 
 -- what F says of the tree of the nodes that are lent (and of what the table says)
-abbrev pub told : ((List ℕ → Bool) → Tree → List Rec) → (nodes : Lent (List ℕ)) (base : ℕ) (marks : Lent (List Bool)) → Table (old nodes) base (old marks) → List Rec
+abbrev pub told : ((List ℕ → Bool) → Tree → List Rec) → (nodes : Lent (List ℕ)) (base : ℕ) (marks : Lent (List Bool)) → OneTable (old nodes) base (old marks) → List Rec
 told F nodes base marks T = F (T .says) (treeOf (T .view))
 
 abbrev pub deployed : (Tree → List Rec) → (nodes : Lent (List ℕ)) (base : ℕ) (marks : Lent (List Bool)) → Deployed (old nodes) base (old marks) → List Rec
 deployed F nodes base marks T = F (treeOf (T .view))
 
-abbrev pub listed : (Tree → List Rec) → (nodes : Lent (List ℕ)) (state declared known : Lent (List Bool)) → Assets (old nodes) (old state) (old declared) (old known) → List Rec
+abbrev pub listed : (Tree → List Rec) → (nodes : Lent (List ℕ)) (state declared known : Lent (List Bool)) → AssetMarks (old nodes) (old state) (old declared) (old known) → List Rec
 listed F nodes state declared known T = F (treeOf (T .view))

@@ -29,7 +29,7 @@ ghost use Rattle.nodes.specs.Shown.{View, In, Worded, Admitted, treeOf};
 ghost use Rattle.nodes.specs.Marks.{Marks};
 ghost use Rattle.nodes.specs.State.{State, seen};
 ghost use Rattle.nodes.specs.Span.{Span};
-ghost use Rattle.resolve_clauses.specs.Said.{Table, Carrying, Deployed, Assets, told, deployed, listed, atWord, atNode, atSigner, identRules, IsEntry, clause32, item32, at33, clauseRules, clause36};
+ghost use Rattle.resolve_clauses.specs.Said.{OneTable, CarriesWord, Deployed, AssetMarks, told, deployed, listed, atWord, atNode, atSigner, identRules, IsEntry, clause32, item32, at33, clauseRules, clause36};
 
 // A rule about words: kind, on, code. At a node of this kind whose word is marked, or (off) is not, it finds its code.
 pub struct Rule(pub usize, pub bool, pub u16);
@@ -44,7 +44,7 @@ fn is_hit(rule: Rule, nodes: &[u8], base: usize, p: usize, marks: &Marks) -> boo
 
 // Whether the rule finds its offence at node p.
 fn finds(rule: Rule, nodes: &[u8], base: usize, p: usize, marks: &Marks) -> bool
-    requires { ⌜ View (now nodes) base × Carrying (rule .0) × In (now nodes) base p ⌝ }
+    requires { ⌜ View (now nodes) base × CarriesWord (rule .0) × In (now nodes) base p ⌝ }
     ensures { λ r. ⌜ Asks (told (λ P t. atNode rule P t p) nodes base marks) (rule .2) p r ⌝ }
 {
     if nodes::kind(nodes, base, p) != rule.0 {
@@ -64,7 +64,7 @@ fn words(
     out: &mut [u16],
     count: usize,
 ) -> usize
-    requires { ⌜ Table (now nodes) base (now marks) × Carrying (rule .0) × Span (now nodes) base from end × (count < 2 ^ 50) ⌝ }
+    requires { ⌜ OneTable (now nodes) base (now marks) × CarriesWord (rule .0) × Span (now nodes) base from end × (count < 2 ^ 50) ⌝ }
     ensures { λ r. ⌜ Adds (told (λ P t. run (atNode rule P t) from (end - from)) nodes base marks) 2048 out count r ⌝ }
 {
     let mut total = count;
@@ -85,7 +85,7 @@ fn within(
     out: &mut [u16],
     count: usize,
 ) -> usize
-    requires { ⌜ Table (now nodes) 0 (now marks) × Carrying (rule .0) × In (now nodes) 0 node × (count < 2 ^ 50) ⌝ }
+    requires { ⌜ OneTable (now nodes) 0 (now marks) × CarriesWord (rule .0) × In (now nodes) 0 node × (count < 2 ^ 50) ⌝ }
     ensures { λ r. ⌜ Adds (told (λ P t. below t (rule .0 ∷ []) node (atWord rule P t)) nodes 0 marks) 2048 out count r ⌝ }
 {
     let end = nodes::end(nodes, 0, node);
@@ -94,7 +94,7 @@ fn within(
 
 // The rule at the signer of a parameter: the Name after its Type.
 fn signer(rule: Rule, nodes: &[u8], p: usize, marks: &Marks, out: &mut [u16], count: usize) -> usize
-    requires { ⌜ Table (now nodes) 0 (now marks) × In (now nodes) 0 p × (count < 2 ^ 60) ⌝ }
+    requires { ⌜ OneTable (now nodes) 0 (now marks) × In (now nodes) 0 p × (count < 2 ^ 60) ⌝ }
     ensures { λ r. ⌜ Adds (told (λ P t. atSigner (atWord rule P t) t p) nodes 0 marks) 1 out count r ⌝ }
 {
     if nodes::kind(nodes, 0, p) != PARAM {
@@ -116,7 +116,7 @@ pub fn signers(
     out: &mut [u16],
     count: usize,
 ) -> usize
-    requires { ⌜ Table (now nodes) 0 (now marks) × In (now nodes) 0 entry × (0 < entry) × (count < 2 ^ 50) ⌝ }
+    requires { ⌜ OneTable (now nodes) 0 (now marks) × In (now nodes) 0 entry × (0 < entry) × (count < 2 ^ 50) ⌝ }
     ensures { λ r. ⌜ Adds (told (λ P t. signers t entry (atWord rule P t)) nodes 0 marks) 2048 out count r ⌝ }
 {
     let end = nodes::end(nodes, 0, entry);
@@ -212,7 +212,7 @@ pub fn group32(image: &[u8], head: Image, out: &mut [u16], count: usize) -> usiz
     if names::number_of(image, head, b"deployer") == 0 {
         return count;
     }
-    let mut deployer = [false; 1024];
+    let mut deployer = [false; Image::NAMES];
     names::mark_word(image, head, b"deployer", &mut deployer);
     items32(nodes::area(image, head), &deployer, out, count)
 }
@@ -260,7 +260,7 @@ fn clause(
     out: &mut [u16],
     count: usize,
 ) -> usize
-    requires { ⌜ Assets (now nodes) (now state) (now declared) (now known) × In (now nodes) 0 p × (count < 2 ^ 50) ⌝ }
+    requires { ⌜ AssetMarks (now nodes) (now state) (now declared) (now known) × In (now nodes) 0 p × (count < 2 ^ 50) ⌝ }
     ensures { λ r. ⌜ Adds (listed (λ t. clause36 t p) nodes state declared known) 2048 out count r ⌝ }
 {
     match nodes::kind(nodes, 0, p) {
@@ -282,7 +282,7 @@ pub fn clauses(
     out: &mut [u16],
     count: usize,
 ) -> usize
-    requires { ⌜ Assets (now nodes) (now state) (now declared) (now known) × In (now nodes) 0 entry × (0 < entry) × (count < 2 ^ 45) ⌝ }
+    requires { ⌜ AssetMarks (now nodes) (now state) (now declared) (now known) × In (now nodes) 0 entry × (0 < entry) × (count < 2 ^ 45) ⌝ }
     ensures { λ r. ⌜ Adds (listed (λ t. below t naming entry (clauseRules t)) nodes state declared known) (2048 * 2048) out count r ⌝ }
 {
     let end = nodes::end(nodes, 0, entry);

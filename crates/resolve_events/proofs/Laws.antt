@@ -9,10 +9,10 @@ use borrow.Author.Tests.{lt-ltb, ne-eqb}
 use lib.Dec.{ltb, eqb}
 use lib.ListN.{length}
 use Rattle.image.specs.Pick.{both}
-use Rattle.image.proofs.Marked.{eq-or-ne}
+use Rattle.image.proofs.Decide.{eq-or-ne}
 use Rattle.image.proofs.Every.{both-left}
 use Rattle.rules.specs.Tree.{Tree, event, event-param}
-use Rattle.rules.specs.Vocabulary.{rec, only, alone, Below, below, Named, Last, arguments}
+use Rattle.rules.specs.Vocabulary.{rec, only, alone, Below, below, Named, IsLast, arguments}
 use Rattle.rules.specs.Resolve.{rule30, rule31, lastEvent, unlike}
 use Rattle.rules.proofs.Reflect.{Tells, tells-both, tells-not, tells-ltb, tells-named, tells-someBelow}
 use Rattle.nodes.proofs.Fall.{not-so}
@@ -24,7 +24,7 @@ tells-last : (t : Tree) (w : List ℕ) (v : ℕ) → Tells (lastEvent t w v) ((t
 unfolding lastEvent
 tells-last t w v = tells-both (tells-named t w v) (tells-not (tells-someBelow t event (t .root) (λ u. tells-both (tells-ltb v u) (tells-named t w u))))
 
-is-last : (t : Tree) (w : List ℕ) (i : ℕ) → Below t event (t .root) i → lastEvent t w i ≡ true → Last (Named t event (t .root) w) i
+is-last : (t : Tree) (w : List ℕ) (i : ℕ) → Below t event (t .root) i → lastEvent t w i ≡ true → IsLast (Named t event (t .root) w) i
 is-last t w i B e = let x = tells-last t w i .so e in record { is = (B, x .0); none = λ j l N. x .1 (j, N .0, (l, N .1)) }
 
 last-so : (t : Tree) (w : List ℕ) → 0 < lastOf t event (t .root) w → lastEvent t w (lastOf t event (t .root) w) ≡ true

@@ -24,7 +24,7 @@ use Rattle.places.specs.Places.{notesBelow, lastOf}
 use Rattle.places.specs.declared.Note.the-variants as note
 use Rattle.places.proofs.Noting.{places-none}
 use Rattle.places.proofs.Reading.{last-is}
-use Rattle.resolve_events.specs.Emitted.{IsKind, Bodied, Noted, Emitted, Events, emitRules}
+use Rattle.resolve_events.specs.Emitted.{IsKind, Bodied, EventNotes, Emitted, Events, emitRules}
 
 -- the Name of an Emit
 pub emit-name : {nodes : List ℕ} {base m : ℕ} → View nodes base → IsKind nodes base m 26 → Worded nodes base (m + 1)
@@ -33,7 +33,7 @@ emit-name W I = named-at W (I .0) (omega arith, refl) (I .1 W)
 
 -- the nodes alone; the whole area, and an event in it
 module _ {nodes : List ℕ} {base : ℕ} {area last : List ℕ} (T : Emitted nodes base area last) where
-  abbrev pub noted-of : Noted nodes base last
+  abbrev pub noted-of : EventNotes nodes base last
   noted-of = record { view = T .body .view; lasts = T .lasts }
 
   abbrev pub area-of : View area 0

@@ -9,7 +9,7 @@ use native.Mathlib.Omega.{arith}
 use lib.ListN.{length, length-append}
 use Rattle.image.specs.Node.{kindOf}
 use Rattle.image.specs.Admit.{nodesOf, nodeCount}
-use Rattle.image.specs.Formed.{Formed}
+use Rattle.image.specs.Forms.{FormsTree}
 use Rattle.image.proofs.Row.{Kids, none, some}
 use Rattle.image.proofs.Children.{Headed, isLeaf, kid-is, leaf, event-of}
 use Rattle.rules.specs.Sweep.{run, keep, has}
@@ -28,7 +28,7 @@ run-all b a (suc n) f =
     length-append (run (those b) a n) (keep (b (a + n)) alone (a + n)) ∙ rw (keep-one alone (a + n) (f (a + n) (omega arith) (omega arith))) (omega arith)
 
 -- the parameters of the event v
-all-params : {s : List ℕ} {n mid at : ℕ} → Formed s n → mid ≤ n → Kids s 6 6 mid at → (j : ℕ) → at ≤ j → j < mid → kindOf s j ≡ 6
+all-params : {s : List ℕ} {n mid at : ℕ} → FormsTree s n → mid ≤ n → Kids s 6 6 mid at → (j : ℕ) → at ≤ j → j < mid → kindOf s j ≡ 6
 all-params F h (none e) j l g = absurd (omega arith)
 all-params {s} {n} F h (some {at} c r) j l g =
     ⊎-elim

@@ -21,7 +21,7 @@ abbrev pub Bodied : ℕ → Type 0
 Bodied k = has k bodied ≡ true
 
 -- nodes from `base` on, with the last event of each name
-pub record Noted (nodes : List ℕ) (base : ℕ) (last : List ℕ) : Type 0 where
+pub record EventNotes (nodes : List ℕ) (base : ℕ) (last : List ℕ) : Type 0 where
   pub view : View nodes base
   pub lasts : Places (view .image) (lastOf (treeOf view) event 0) last
 
@@ -34,7 +34,7 @@ pub record Emitted (nodes : List ℕ) (base : ℕ) (area last : List ℕ) : Type
   pub root : In area 0 0
 
 pub record Events (area last : List ℕ) : Type 0 where
-  pub noted : Noted area 0 last
+  pub noted : EventNotes area 0 last
   pub root : In area 0 0
 
 -- 30, else 31, at an Emit; at a node; in an item of kind k
@@ -48,7 +48,7 @@ abbrev pub item30 : ℕ → ℕ → Tree → List Rec
 item30 k p t = keep (has (t .kind p) (k ∷ [])) (λ i. below t emit i (emitRules t)) p
 
 -- what F says of the tree of the nodes that are lent, by each of these; 30 and 31 at all of them
-abbrev pub noted : (Tree → List Rec) → (nodes : Lent (List ℕ)) (base : ℕ) (last : Lent (List ℕ)) → Noted (old nodes) base (old last) → List Rec
+abbrev pub noted : (Tree → List Rec) → (nodes : Lent (List ℕ)) (base : ℕ) (last : Lent (List ℕ)) → EventNotes (old nodes) base (old last) → List Rec
 noted F nodes base last T = F (treeOf (T .view))
 
 abbrev pub emitted : (Tree → List Rec) → (nodes : Lent (List ℕ)) (base : ℕ) (area last : Lent (List ℕ)) → Emitted (old nodes) base (old area) (old last) → List Rec

@@ -1,5 +1,6 @@
 // Emits: codes 30 and 31 of document 01.
 use image::Cursor;
+use image::Image;
 use image::Step;
 use nodes::EMIT;
 use nodes::ENTRY;
@@ -17,7 +18,7 @@ ghost use Rattle.rules.specs.Resolve.{rule30, rule31, emits, group30};
 ghost use Rattle.records.specs.Words.{old};
 ghost use Rattle.records.specs.Records.{Adds, Asks};
 ghost use Rattle.nodes.specs.Shown.{View, In, treeOf};
-ghost use Rattle.resolve_events.specs.Emitted.{IsKind, Bodied, Noted, Emitted, Events, at30, item30, noted, emitted, swept30, events};
+ghost use Rattle.resolve_events.specs.Emitted.{IsKind, Bodied, EventNotes, Emitted, Events, at30, item30, noted, emitted, swept30, events};
 
 // The number of arguments of an Emit: a cursor over its children after the Name, moved past one child at each step.
 fn arguments(area: &[u8], emit: usize) -> usize
@@ -48,7 +49,7 @@ fn parameters(nodes: &[u8], event: usize) -> usize
 
 // 30 at an Emit: its event is not declared.
 fn rule30(nodes: &[u8], base: usize, emit: usize, last: &Places) -> bool
-    requires { ⌜ Noted (now nodes) base (now last) × IsKind (now nodes) base emit 26 ⌝ }
+    requires { ⌜ EventNotes (now nodes) base (now last) × IsKind (now nodes) base emit 26 ⌝ }
     ensures { λ r. ⌜ Asks (noted (λ t. rule30 t emit) nodes base last) 30 emit r ⌝ }
 {
     places::at(last, nodes, base, emit + 1) == 0
@@ -148,7 +149,7 @@ pub fn group30(nodes: &[u8], out: &mut [u16], count: usize) -> usize
     requires { ⌜ View (now nodes) 0 × In (now nodes) 0 0 × (count < 2 ^ 40) ⌝ }
     ensures { λ r. ⌜ Adds (λ (W : View (old nodes) 0). group30 (treeOf W)) (2 * 4096 * 2048) out count r ⌝ }
 {
-    let mut last = [0u16; 1024];
+    let mut last = [0u16; Image::NAMES];
     places::note_names(Note::Last, EVENT, nodes, &mut last);
     let total = emits(ENTRY, nodes, &last, out, count);
     emits(GENESIS, nodes, &last, out, total)

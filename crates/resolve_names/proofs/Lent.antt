@@ -17,7 +17,7 @@ use Rattle.nodes.proofs.Steps.{statements-of, below-item}
 use Rattle.places.specs.declared.Note.the-variants.{First}
 use Rattle.places.specs.Places.{Places, Noted, notesBelow, firstOf}
 use Rattle.places.proofs.Noting.{places-none}
-use Rattle.resolve_names.specs.Seen.{Among, Params, Body, Clean, Tables, parameterRules, statementNames, item24}
+use Rattle.resolve_names.specs.Seen.{Among, Params, NamingBody, NoneNoted, NameTables, parameterRules, statementNames, item24}
 
 -- a table that noted nothing notes the first of each name among the nodes of kind ks below a
 abbrev pub Firsts : List ℕ → List ℕ → ℕ → List ℕ → List ℕ → Type 0
@@ -35,16 +35,16 @@ among-params {entry = entry} T l h = record { view = T .named .view; holder = en
 abbrev pub among-in : {nodes firsts : List ℕ} {base kind p : ℕ} (B : Statements nodes base) → In nodes base p → Places (B .view .image) (firstOf (treeOf (B .view)) (kind ∷ []) (B .item)) firsts → Among nodes base kind p firsts
 among-in B i f = record { view = B .view; holder = B .item; after = below-item B i .0; inside = below-item B i .1; are-first = f }
 
-abbrev pub state-of : {nodes params lets : List ℕ} {state : List Bool} {base : ℕ} → Body nodes base state params lets → State nodes base state
+abbrev pub state-of : {nodes params lets : List ℕ} {state : List Bool} {base : ℕ} → NamingBody nodes base state params lets → State nodes base state
 state-of T = record { view = T .scope .body .view; state-marks = T .state-marks }
 
 -- an entry and its statements, once its parameters and its Lets are noted
-module _ {nodes params₀ lets₀ : List ℕ} {state : List Bool} (T : Tables nodes state params₀ lets₀) where
+module _ {nodes params₀ lets₀ : List ℕ} {state : List Bool} (T : NameTables nodes state params₀ lets₀) where
   abbrev pub params-of : {e : ℕ} {params : List ℕ} → Firsts nodes param e params₀ params → Params nodes e state params
   params-of f = record { named = T .named; first-params = f (T .named .view) (λ w. 0) (T .clean .0) }
 
   abbrev pub body-of : {e first : ℕ} {part params lets : List ℕ} → In nodes 0 e → 0 < e → treeOf (T .named .view) .kind e ≡ 9 → Starts (T .named .view) e first → Shown (T .named .view .image) part first (treeOf (T .named .view) .end e)
-      → Firsts nodes param e params₀ params → Firsts nodes «let» e lets₀ lets → Body part first state params lets
+      → Firsts nodes param e params₀ params → Firsts nodes «let» e lets₀ lets → NamingBody part first state params lets
   body-of i z k S P f g = record {
     scope = record { body = statements-of (T .named .view) i z (inr k) S P; first-lets = g (T .named .view) (λ w. 0) (T .clean .1) };
     state-marks = T .named .state-marks;
@@ -52,10 +52,10 @@ module _ {nodes params₀ lets₀ : List ℕ} {state : List Bool} (T : Tables no
   }
 
 -- tables that note nothing; fresh ones do
-abbrev pub cleaned : {nodes params lets : List ℕ} {state : List Bool} (T : State nodes 0 state) → Clean T params lets → Tables nodes state params lets
+abbrev pub cleaned : {nodes params lets : List ℕ} {state : List Bool} (T : State nodes 0 state) → NoneNoted T params lets → NameTables nodes state params lets
 cleaned T n = record { named = T; clean = n }
 
-pub fresh : {nodes : List ℕ} {state : List Bool} (T : State nodes 0 state) → Clean T (replicate 1024 0) (replicate 1024 0)
+pub fresh : {nodes : List ℕ} {state : List Bool} (T : State nodes 0 state) → NoneNoted T (replicate 1024 0) (replicate 1024 0)
 fresh T = let N = places-none (T .view .image) (T .view .shown .admitted) in (N, N)
 
 -- 24 to 29 in an entry

@@ -33,18 +33,18 @@ pub record Lets (nodes : List ℕ) (base : ℕ) (lets : List ℕ) : Type 0 where
   pub body : Statements nodes base
   pub first-lets : Places (body .view .image) (firstOf (treeOf (body .view)) «let» (body .item)) lets
 
-pub record Body (nodes : List ℕ) (base : ℕ) (state : List Bool) (params lets : List ℕ) : Type 0 where
+pub record NamingBody (nodes : List ℕ) (base : ℕ) (state : List Bool) (params lets : List ℕ) : Type 0 where
   pub scope : Lets nodes base lets
   pub state-marks : Marks (scope .body .view .image) (isState (treeOf (scope .body .view))) state
   pub first-params : Places (scope .body .view .image) (firstOf (treeOf (scope .body .view)) param (scope .body .item)) params
 
 -- between entries: the state names, and tables that note nothing
-abbrev pub Clean : {nodes : List ℕ} {state : List Bool} → State nodes 0 state → List ℕ → List ℕ → Type 0
-Clean T params lets = Places (T .view .image) (λ w. 0) params × Places (T .view .image) (λ w. 0) lets
+abbrev pub NoneNoted : {nodes : List ℕ} {state : List Bool} → State nodes 0 state → List ℕ → List ℕ → Type 0
+NoneNoted T params lets = Places (T .view .image) (λ w. 0) params × Places (T .view .image) (λ w. 0) lets
 
-pub record Tables (nodes : List ℕ) (state : List Bool) (params lets : List ℕ) : Type 0 where
+pub record NameTables (nodes : List ℕ) (state : List Bool) (params lets : List ℕ) : Type 0 where
   pub named : State nodes 0 state
-  pub clean : Clean named params lets
+  pub clean : NoneNoted named params lets
 
 -- 20, 21, 25 and 27 are one rule: the name of a node of kind ks below a is met before; the record is about its Name (1) or itself (0)
 abbrev pub metRule : ℕ → List ℕ → ℕ → Tree → ℕ → ℕ → List Rec
@@ -84,8 +84,8 @@ abbrev pub item24 : ℕ → Tree → List Rec
 item24 p t = keep (has (t .kind p) entry) (entryNames t) p
 
 -- what F says of the tree of the nodes that are lent; of the tree and the entry
-abbrev pub seenAll : (Tree → List Rec) → (nodes : Lent (List ℕ)) (state : Lent (List Bool)) (params lets : Lent (List ℕ)) → Tables (old nodes) (old state) (old params) (old lets) → List Rec
-seenAll F nodes state params lets T = F (treeOf (T .named .view))
+abbrev pub seenNames : (Tree → List Rec) → (nodes : Lent (List ℕ)) (state : Lent (List Bool)) (params lets : Lent (List ℕ)) → NameTables (old nodes) (old state) (old params) (old lets) → List Rec
+seenNames F nodes state params lets T = F (treeOf (T .named .view))
 
 abbrev pub seenAmong : (Tree → ℕ → List Rec) → (nodes : Lent (List ℕ)) (base kind p : ℕ) (firsts : Lent (List ℕ)) → Among (old nodes) base kind p (old firsts) → List Rec
 seenAmong F nodes base kind p firsts T = F (treeOf (T .view)) (T .holder)
@@ -93,15 +93,15 @@ seenAmong F nodes base kind p firsts T = F (treeOf (T .view)) (T .holder)
 abbrev pub seenLets : (Tree → ℕ → List Rec) → (nodes : Lent (List ℕ)) (base : ℕ) (lets : Lent (List ℕ)) → Lets (old nodes) base (old lets) → List Rec
 seenLets F nodes base lets T = F (treeOf (T .body .view)) (T .body .item)
 
-abbrev pub seenBody : (Tree → ℕ → List Rec) → (nodes : Lent (List ℕ)) (base : ℕ) (state : Lent (List Bool)) (params lets : Lent (List ℕ)) → Body (old nodes) base (old state) (old params) (old lets) → List Rec
+abbrev pub seenBody : (Tree → ℕ → List Rec) → (nodes : Lent (List ℕ)) (base : ℕ) (state : Lent (List Bool)) (params lets : Lent (List ℕ)) → NamingBody (old nodes) base (old state) (old params) (old lets) → List Rec
 seenBody F nodes base state params lets T = F (treeOf (T .scope .body .view)) (T .scope .body .item)
 
 -- 26 to 29 in all of the statements that are lent
-abbrev pub swept26 : (nodes : Lent (List ℕ)) (base : ℕ) (state : Lent (List Bool)) (params lets : Lent (List ℕ)) → Body (old nodes) base (old state) (old params) (old lets) → List Rec
+abbrev pub swept26 : (nodes : Lent (List ℕ)) (base : ℕ) (state : Lent (List Bool)) (params lets : Lent (List ℕ)) → NamingBody (old nodes) base (old state) (old params) (old lets) → List Rec
 swept26 nodes base state params lets T =
     let W = T .scope .body .view in
     run (λ s. keep (has (treeOf W .kind s) statement) (statementNames (treeOf W) (T .scope .body .item)) s) base (W .upto - base)
 
 -- nothing is noted afterwards
-abbrev pub Cleans : (nodes : Lent (List ℕ)) (state : Lent (List Bool)) (params lets : Lent (List ℕ)) → Type 0
-Cleans nodes state params lets = (T : Tables (old nodes) (old state) (old params) (old lets)) → Clean (T .named) (new params) (new lets)
+abbrev pub CleansNoted : (nodes : Lent (List ℕ)) (state : Lent (List Bool)) (params lets : Lent (List ℕ)) → Type 0
+CleansNoted nodes state params lets = (T : NameTables (old nodes) (old state) (old params) (old lets)) → NoneNoted (T .named) (new params) (new lets)

@@ -1,4 +1,5 @@
 // The names of fields, events, parameters and Lets: codes 20, 21 and 24 to 29 of document 01.
+use image::Image;
 use nodes::ENTRY;
 use nodes::EVENT;
 use nodes::FIELD_DECL;
@@ -18,7 +19,7 @@ ghost use Rattle.records.specs.Records.{Adds, Asks, AsksAt};
 ghost use Rattle.nodes.specs.Shown.{View, In, treeOf};
 ghost use Rattle.nodes.specs.First.{NameFirst, Declaring};
 ghost use Rattle.nodes.specs.State.{State, seen};
-ghost use Rattle.resolve_names.specs.Seen.{Among, Params, Lets, Body, Tables, metRule, atMet, atState, at26, at27, at29, parameterRules, idents26, item24, seenAll, seenAmong, seenLets, seenBody, swept26, Cleans};
+ghost use Rattle.resolve_names.specs.Seen.{Among, Params, Lets, NamingBody, NameTables, metRule, atMet, atState, at26, at27, at29, parameterRules, idents26, item24, seenNames, seenAmong, seenLets, seenBody, swept26, CleansNoted};
 
 // 20, 21, 25 and 27 at a node, if it is of this kind: its name is met before. Related: the first of that name, or with `name` 1 its Name.
 fn met(kind: usize, nodes: &[u8], base: usize, p: usize, firsts: &Places, name: usize) -> Hit
@@ -40,7 +41,7 @@ fn repeated(kind: usize, code: u16, nodes: &[u8], out: &mut [u16], count: usize)
     requires { ⌜ Declaring kind × View (now nodes) 0 × In (now nodes) 0 0 × (count < 2 ^ 50) ⌝ }
     ensures { λ r. ⌜ Adds (λ (W : View (old nodes) 0). below (treeOf W) (kind ∷ []) 0 (metRule code (kind ∷ []) 1 (treeOf W) 0)) 2048 out count r ⌝ }
 {
-    let mut firsts = [0u16; 1024];
+    let mut firsts = [0u16; Image::NAMES];
     places::note_names(Note::First, kind, nodes, &mut firsts);
     let end = nodes::end(nodes, 0, 0);
     let mut total = count;
@@ -157,7 +158,7 @@ fn let_names(
     out: &mut [u16],
     count: usize,
 ) -> usize
-    requires { ⌜ Body (now nodes) base (now state) (now params) (now lets) × In (now nodes) base s × (count < 2 ^ 50) ⌝ }
+    requires { ⌜ NamingBody (now nodes) base (now state) (now params) (now lets) × In (now nodes) base s × (count < 2 ^ 50) ⌝ }
     ensures { λ r. ⌜ Adds (seenBody (at27 s) nodes base state params lets) 3 out count r ⌝ }
 {
     let earlier = records::emit_hit(met(LET, nodes, base, s, lets, 0), out, count, 27, s);
@@ -175,7 +176,7 @@ fn statements(
     out: &mut [u16],
     count: usize,
 ) -> usize
-    requires { ⌜ Body (now nodes) base (now state) (now params) (now lets) × (count < 2 ^ 48) ⌝ }
+    requires { ⌜ NamingBody (now nodes) base (now state) (now params) (now lets) × (count < 2 ^ 48) ⌝ }
     ensures { λ r. ⌜ Adds (swept26 nodes base state params lets) (2051 * 2048) out count r ⌝ }
 {
     let end = base + nodes.len() / 16;
@@ -199,20 +200,20 @@ fn entry(
     out: &mut [u16],
     count: usize,
 ) -> usize
-    requires { ⌜ Tables (now nodes) (now state) (now params) (now lets) × In (now nodes) 0 item × (0 < item) × (count < 2 ^ 47) ⌝ }
-    ensures { λ r. ⌜ Adds (seenAll (item24 item) nodes state params lets) (2053 * 2048) out count r ⌝ }
-    ensures { λ _. ⌜ Cleans nodes state params lets ⌝ }
+    requires { ⌜ NameTables (now nodes) (now state) (now params) (now lets) × In (now nodes) 0 item × (0 < item) × (count < 2 ^ 47) ⌝ }
+    ensures { λ r. ⌜ Adds (seenNames (item24 item) nodes state params lets) (2053 * 2048) out count r ⌝ }
+    ensures { λ _. ⌜ CleansNoted nodes state params lets ⌝ }
 {
     if nodes::kind(nodes, 0, item) != ENTRY {
         return count;
     }
-    places::note_parts(Note::First, PARAM, nodes, item, params);
+    let first = nodes::first_statement(nodes, 0, item);
+    places::note_heads(Note::First, PARAM, nodes, item, first, params);
     places::note_parts(Note::First, LET, nodes, item, lets);
     let named = parameters(nodes, item, state, params, out, count);
-    let first = nodes::first_statement(nodes, 0, item);
     let body = nodes::statements(nodes, 0, item, first);
     let total = statements(body, first, state, params, lets, out, named);
-    places::note_parts(Note::Off, PARAM, nodes, item, params);
+    places::note_heads(Note::Off, PARAM, nodes, item, first, params);
     places::note_parts(Note::Off, LET, nodes, item, lets);
     total
 }
@@ -222,8 +223,8 @@ pub fn group24(nodes: &[u8], state: &Marks, out: &mut [u16], count: usize) -> us
     requires { ⌜ State (now nodes) 0 (now state) × In (now nodes) 0 0 × (count < 2 ^ 40) ⌝ }
     ensures { λ r. ⌜ Adds (seen group24 nodes 0 state) (2053 * 2048 * 2048) out count r ⌝ }
 {
-    let mut params = [0u16; 1024];
-    let mut lets = [0u16; 1024];
+    let mut params = [0u16; Image::NAMES];
+    let mut lets = [0u16; Image::NAMES];
     let end = nodes::end(nodes, 0, 0);
     let mut total = count;
     let mut p = 1;

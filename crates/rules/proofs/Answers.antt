@@ -1,8 +1,8 @@
 -- The answers of specs/Answers are what the facts allow, and nothing else is; and what a list, or a part of one, leaves in its buffer.
 use Prim.Native.Nat.{ℕ, zero, suc, _+_, _*_, _<_, _≤_}
-use mathlib.Core.Path.{_≡_, refl, ap, _∙_, sym}
+use mathlib.Core.Path.{_≡_, refl, ap, _∙_, sym, subst}
 use mathlib.Core.Bool.{Bool, true, false, true≢false}
-use mathlib.Core.List.{List, [], _∷_, _++_}
+use mathlib.Core.List.{List, [], _∷_, _++_, List·Memᴰ, List·Memᴰ·head, List·Memᴰ·not-nil}
 use mathlib.Core.Logic.{_⊎_, inl, inr, ⊎-elim}
 use native.Mathlib.Omega.{arith}
 use borrow.Author.Tests.{ltb-true, ltb-false, lt-ltb, le-ltb, eqb-true, eqb-false, eq-eqb, ne-eqb}
@@ -19,20 +19,20 @@ use Rattle.rules.specs.Model.{StateName, isState, DeclaredAsset, isDecla
 use Rattle.rules.specs.Resolve.{resolve}
 use Rattle.rules.specs.Access.{access}
 use Rattle.rules.specs.Linear.{linear}
-use Rattle.rules.specs.All.{offences, Verdict, verdict, FullList}
-use Rattle.rules.specs.Passes.{Pass, resolving, accessing, linearity, None, First, Judges}
-use Rattle.rules.specs.Answers.{Answer, imageRefused, refusedAt, firstOf, passAnswer, Reply, replyRefused, replied, ask, words, laid, Listing, listRefused, listed, listAnswer, listBuffer, partCount, partBuffer, onRest, InTurn}
-use Rattle.rules.specs.Allowed.{Refused, Admitted, PassAllowed, ReplyAllowed, ListAllowed}
+use Rattle.rules.specs.All.{offences, FullList}
+use Rattle.rules.specs.Passes.{PassRules, resolving, accessing, linearity, None, FirstOffence, Judges}
+use Rattle.rules.specs.Answers.{Answer, imageRefused, verdict, passAnswer, NameReply, replyRefused, replied, ask, words, laid, ListReply, listRefused, listHas, listAnswer, listBuffer, partCount, partBuffer, onRest, InTurn}
+use Rattle.rules.specs.Allowed.{IsRefused, IsAdmitted, PassAllowed, ReplyAllowed, ListAllowed}
 use Rattle.rules.proofs.Reflect.{Tells}
 use Rattle.rules.proofs.Model.{tells-isState, tells-isDeclaredAsset, tells-isKnownAsset}
 use Rattle.rules.proofs.Full.{full, only-full}
 use Rattle.rules.proofs.Passes.{judges-resolve, judges-access, judges-linear}
 
 -- an image is admitted or refused
-pub decide : (s : List ℕ) → Admitted s ⊎ Refused s
+pub decide : (s : List ℕ) → IsAdmitted s ⊎ IsRefused s
 decide s = go (eqb (refusal s) 0) refl
   where
-    go : (b : Bool) → eqb (refusal s) 0 ≡ b → Admitted s ⊎ Refused s
+    go : (b : Bool) → eqb (refusal s) 0 ≡ b → IsAdmitted s ⊎ IsRefused s
     go true e = inl (eqb-true (refusal s) 0 e)
     go false e = inr (eqb-false (refusal s) 0 e)
 
@@ -54,43 +54,36 @@ refusal-most s =
 
 -- A pass
 
-pub pass-refused : (pass : Tree → List Rec) (s : List ℕ) → Refused s → passAnswer pass s ≡ imageRefused (refusal s)
+pub pass-refused : (pass : Tree → List Rec) (s : List ℕ) → IsRefused s → passAnswer pass s ≡ imageRefused (refusal s)
 unfolding passAnswer
-pass-refused pass s n = ap (λ (b : Bool). pick b (firstOf s (pass (tree s))) (imageRefused (refusal s))) (ne-eqb (refusal s) 0 n)
+pass-refused pass s n = ap (λ (b : Bool). pick b (verdict s (pass (tree s))) (imageRefused (refusal s))) (ne-eqb (refusal s) 0 n)
 
-pub pass-admitted : (pass : Tree → List Rec) (s : List ℕ) → Admitted s → passAnswer pass s ≡ firstOf s (pass (tree s))
+pub pass-admitted : (pass : Tree → List Rec) (s : List ℕ) → IsAdmitted s → passAnswer pass s ≡ verdict s (pass (tree s))
 unfolding passAnswer
-pass-admitted pass s e = ap (λ (b : Bool). pick b (firstOf s (pass (tree s))) (imageRefused (refusal s))) (eq-eqb (refusal s) 0 e)
+pass-admitted pass s e = ap (λ (b : Bool). pick b (verdict s (pass (tree s))) (imageRefused (refusal s))) (eq-eqb (refusal s) 0 e)
 
-first-refuses : (s : List ℕ) (l : List Rec) (c q : ℕ) → (l ≡ [] → ⊥) → verdict l ≡ record { code = c; place = q } → firstOf s l ≡ refusedAt s c q
-first-refuses s [] c q n e = absurd (n refl)
-first-refuses s (r ∷ l) c q n e = ap (λ (v : Verdict). refusedAt s (v .code) (v .place)) e
-
-module _ (p : Pass) (s : List ℕ) (j : Admitted s → Judges (tree s) p) where
-  -- the pass's part is empty exactly when it has no offence
-  empty : (e : Admitted s) → None (tree s) p → p .part (tree s) ≡ []
-  empty e n = sym (j e .part) ∙ j e .accepts .0 (j e .accepts-none .1 n)
-
-  full-part : (e : Admitted s) (r : Rec) → First (tree s) p r → p .part (tree s) ≡ [] → ⊥
-  full-part e r f z = j e .accepts-none .0 (ap (λ (l : List Rec). verdict l .code) z) r (f .is) (f .of)
+module _ (p : PassRules) (s : List ℕ) (j : IsAdmitted s → Judges (tree s) p) where
+  -- a pass has no offence, or a first one
+  pub decided : IsAdmitted s → None (tree s) p ⊎ ((r : Rec) × FirstOffence (tree s) p r)
+  decided e = go (p .part (tree s)) (j e .accepts .0) (j e .has-first)
+    where
+      go : (l : List Rec) → (l ≡ [] → None (tree s) p) → ((l ≡ [] → ⊥) → (r : Rec) × FirstOffence (tree s) p r) → None (tree s) p ⊎ ((r : Rec) × FirstOffence (tree s) p r)
+      go [] n f = inl (n refl)
+      go (r ∷ l) n f = inr (f (λ z. absurd (List·Memᴰ·not-nil (subst (λ (m : List Rec). List·Memᴰ r m) z (List·Memᴰ·head refl)))))
 
   pub pass-allowed : PassAllowed p s (passAnswer (p .part) s)
   pass-allowed = record {
     refused = pass-refused (p .part) s;
-    accepts = λ e n. pass-admitted (p .part) s e ∙ ap (firstOf s) (empty e n);
-    refuses = λ e r f. pass-admitted (p .part) s e ∙ first-refuses s (p .part (tree s)) (r .code) (r .place) (full-part e r f) (j e .refuses r f);
+    accepts = λ e n. pass-admitted (p .part) s e ∙ ap (verdict s) (j e .accepts .1 n);
+    refuses = λ e r f. pass-admitted (p .part) s e ∙ ap (verdict s) (j e .refuses r f .1);
   }
 
   -- two allowed answers are equal
   pub pass-only : (a b : Answer) → PassAllowed p s a → PassAllowed p s b → a ≡ b
   pass-only a b x y = ⊎-elim admits (λ n. x .refused n ∙ sym (y .refused n)) (decide s)
     where
-      admits : Admitted s → a ≡ b
-      admits e = go (eqb (verdict (p .part (tree s)) .code) 0) refl
-        where
-          go : (t : Bool) → eqb (verdict (p .part (tree s)) .code) 0 ≡ t → a ≡ b
-          go true q = let n = j e .accepts-none .0 (eqb-true _ _ q) in x .accepts e n ∙ sym (y .accepts e n)
-          go false q = let f = j e .has-first (eqb-false _ _ q) in x .refuses e (f .0) (f .1) ∙ sym (y .refuses e (f .0) (f .1))
+      admits : IsAdmitted s → a ≡ b
+      admits e = ⊎-elim (λ n. x .accepts e n ∙ sym (y .accepts e n)) (λ f. x .refuses e (f .0) (f .1) ∙ sym (y .refuses e (f .0) (f .1))) (decided e)
 
 module _ (s : List ℕ) where
   pub resolve-allowed : PassAllowed resolving s (passAnswer resolve s)
@@ -105,7 +98,7 @@ module _ (s : List ℕ) where
 -- A question
 
 module _ (q : Tree → List ℕ → Bool) (Q : Tree → List ℕ → Type 0) (h : (t : Tree) (w : List ℕ) → Tells (q t w) (Q t w)) (s w : List ℕ) where
-  abbrev answers : Bool → Bool → Reply
+  abbrev answers : Bool → Bool → NameReply
   answers b c = pick b (replied c) (replyRefused (refusal s))
 
   pub ask-allowed : ReplyAllowed Q s w (ask q s w)
@@ -120,10 +113,10 @@ module _ (q : Tree → List ℕ → Bool) (Q : Tree → List ℕ → Type 0) (h 
       not-so true z f = absurd (f (h (tree s) w .so z))
       not-so false z f = z
 
-  pub ask-only : (a b : Reply) → ReplyAllowed Q s w a → ReplyAllowed Q s w b → a ≡ b
+  pub ask-only : (a b : NameReply) → ReplyAllowed Q s w a → ReplyAllowed Q s w b → a ≡ b
   ask-only a b x y = ⊎-elim (λ e. go e (q (tree s) w) refl) (λ n. x .refused n ∙ sym (y .refused n)) (decide s)
     where
-      go : Admitted s → (c : Bool) → q (tree s) w ≡ c → a ≡ b
+      go : IsAdmitted s → (c : Bool) → q (tree s) w ≡ c → a ≡ b
       go e true z = let f = h (tree s) w .so z in x .yes e f ∙ sym (y .yes e f)
       go e false z =
           let f : Q (tree s) w → ⊥ = λ g. true≢false (sym (h (tree s) w .back g) ∙ z) in
@@ -226,32 +219,32 @@ module _ (s : List ℕ) where
   abbrev count : ℕ
   count = length (offences (tree s))
 
-  pub list-refused : (n : ℕ) → Refused s → listAnswer s n ≡ listRefused (refusal s)
+  pub list-refused : (n : ℕ) → IsRefused s → listAnswer s n ≡ listRefused (refusal s)
   unfolding listAnswer
-  list-refused n r = ap (λ (b : Bool). pick b (pick (ltb n (3 * count)) (listRefused 9) (listed count)) (listRefused (refusal s))) (ne-eqb (refusal s) 0 r)
+  list-refused n r = ap (λ (b : Bool). pick b (pick (ltb n (3 * count)) (listRefused 9) (listHas count)) (listRefused (refusal s))) (ne-eqb (refusal s) 0 r)
 
-  admits : (n : ℕ) → Admitted s → listAnswer s n ≡ pick (ltb n (3 * count)) (listRefused 9) (listed count)
+  admits : (n : ℕ) → IsAdmitted s → listAnswer s n ≡ pick (ltb n (3 * count)) (listRefused 9) (listHas count)
   unfolding listAnswer
-  admits n e = ap (λ (b : Bool). pick b (pick (ltb n (3 * count)) (listRefused 9) (listed count)) (listRefused (refusal s))) (eq-eqb (refusal s) 0 e)
+  admits n e = ap (λ (b : Bool). pick b (pick (ltb n (3 * count)) (listRefused 9) (listHas count)) (listRefused (refusal s))) (eq-eqb (refusal s) 0 e)
 
-  pub list-short : (n : ℕ) → Admitted s → n < 3 * count → listAnswer s n ≡ listRefused 9
-  list-short n e l = admits n e ∙ ap (λ (b : Bool). pick b (listRefused 9) (listed count)) (lt-ltb n (3 * count) l)
+  pub list-short : (n : ℕ) → IsAdmitted s → n < 3 * count → listAnswer s n ≡ listRefused 9
+  list-short n e l = admits n e ∙ ap (λ (b : Bool). pick b (listRefused 9) (listHas count)) (lt-ltb n (3 * count) l)
 
-  pub list-listed : (n : ℕ) → Admitted s → 3 * count ≤ n → listAnswer s n ≡ listed count
-  list-listed n e l = admits n e ∙ ap (λ (b : Bool). pick b (listRefused 9) (listed count)) (le-ltb n (3 * count) l)
+  pub list-listed : (n : ℕ) → IsAdmitted s → 3 * count ≤ n → listAnswer s n ≡ listHas count
+  list-listed n e l = admits n e ∙ ap (λ (b : Bool). pick b (listRefused 9) (listHas count)) (le-ltb n (3 * count) l)
 
   module _ (o : List ℕ) where
-    buffer-is : (a : Listing) → listAnswer s (length o) ≡ a → listBuffer s o ≡ pick (eqb (a .number) 0) (laid o 0 (offences (tree s))) o
+    buffer-is : (a : ListReply) → listAnswer s (length o) ≡ a → listBuffer s o ≡ pick (eqb (a .number) 0) (laid o 0 (offences (tree s))) o
     unfolding listBuffer
-    buffer-is a q = ap (λ (b : Listing). pick (eqb (b .number) 0) (laid o 0 (offences (tree s))) o) q
+    buffer-is a q = ap (λ (b : ListReply). pick (eqb (b .number) 0) (laid o 0 (offences (tree s))) o) q
 
-    pub buffer-refused : Refused s → listBuffer s o ≡ o
+    pub buffer-refused : IsRefused s → listBuffer s o ≡ o
     buffer-refused r = buffer-is _ (list-refused (length o) r) ∙ ap (λ (b : Bool). pick b (laid o 0 (offences (tree s))) o) (ne-eqb (refusal s) 0 r)
 
-    pub buffer-short : Admitted s → length o < 3 * count → listBuffer s o ≡ o
+    pub buffer-short : IsAdmitted s → length o < 3 * count → listBuffer s o ≡ o
     buffer-short e l = buffer-is _ (list-short (length o) e l)
 
-    pub buffer-listed : Admitted s → 3 * count ≤ length o → listBuffer s o ≡ laid o 0 (offences (tree s))
+    pub buffer-listed : IsAdmitted s → 3 * count ≤ length o → listBuffer s o ≡ laid o 0 (offences (tree s))
     buffer-listed e l = buffer-is _ (list-listed (length o) e l)
 
     -- the length is unchanged, and words past the last record keep their values, whatever the answer
@@ -270,14 +263,14 @@ module _ (s : List ℕ) where
   pub buffer-kept : (o : List ℕ) (i : ℕ) → 3 * listAnswer s (length o) .records ≤ i → getD (listBuffer s o) i 0 ≡ getD o i 0
   buffer-kept o i h = ⊎-elim admitted (λ r. ap (λ (b : List ℕ). getD b i 0) (buffer-refused o r)) (decide s)
     where
-      admitted : Admitted s → getD (listBuffer s o) i 0 ≡ getD o i 0
+      admitted : IsAdmitted s → getD (listBuffer s o) i 0 ≡ getD o i 0
       admitted e = go (ltb (length o) (3 * count)) refl
         where
           go : (b : Bool) → ltb (length o) (3 * count) ≡ b → getD (listBuffer s o) i 0 ≡ getD o i 0
           go true q = ap (λ (b : List ℕ). getD b i 0) (buffer-short o e (ltb-true _ _ q))
           go false q =
               let l = ltb-false (length o) (3 * count) q in
-              let k : listAnswer s (length o) .records ≡ count = ap (λ (a : Listing). a .records) (list-listed (length o) e l) in
+              let k : listAnswer s (length o) .records ≡ count = ap (λ (a : ListReply). a .records) (list-listed (length o) e l) in
               ap (λ (b : List ℕ). getD b i 0) (buffer-listed o e l) ∙ laid-kept o (offences (tree s)) i (omega arith)
 
   pub list-allowed : (o : List ℕ) → ListAllowed s o (listAnswer s (length o)) (listBuffer s o)
@@ -285,7 +278,7 @@ module _ (s : List ℕ) where
     long = buffer-long o;
     refused = λ r. (list-refused (length o) r, buffer-refused o r);
     short = λ e l f h. let n = same e l f in (list-short (length o) e (omega arith), buffer-short o e (omega arith));
-    full = λ e l f h. let n = same e l f in list-listed (length o) e (omega arith) ∙ ap listed n;
+    full = λ e l f h. let n = same e l f in list-listed (length o) e (omega arith) ∙ ap listHas n;
     written = λ e l f h i g.
         let n = same e l f in
         ap (λ (b : List ℕ). getD b i 0) (buffer-listed o e (omega arith)) ∙ laid-written o (offences (tree s)) i (omega arith) (omega arith)
@@ -293,15 +286,15 @@ module _ (s : List ℕ) where
     kept = λ e l f h i g. let n = same e l f in ap (λ (b : List ℕ). getD b i 0) (buffer-listed o e (omega arith)) ∙ laid-kept o (offences (tree s)) i (omega arith);
   }
     where
-      same : Admitted s → (l : List Rec) → FullList (tree s) l → count ≡ length l
+      same : IsAdmitted s → (l : List Rec) → FullList (tree s) l → count ≡ length l
       same e l f = ap length (sym (only-full s e l f))
 
   -- two allowed answers are equal, with what they leave in the buffer
   pub list-only :
-      (o : List ℕ) (a b : Listing) (x y : List ℕ) → ListAllowed s o a x → ListAllowed s o b y → (a ≡ b) × (x ≡ y)
+      (o : List ℕ) (a b : ListReply) (x y : List ℕ) → ListAllowed s o a x → ListAllowed s o b y → (a ≡ b) × (x ≡ y)
   list-only o a b x y g h = ⊎-elim admitted (λ r. (g .refused r .0 ∙ sym (h .refused r .0), g .refused r .1 ∙ sym (h .refused r .1))) (decide s)
     where
-      admitted : Admitted s → (a ≡ b) × (x ≡ y)
+      admitted : IsAdmitted s → (a ≡ b) × (x ≡ y)
       admitted e = go (ltb (length o) (3 * count)) refl
         where
           f : FullList (tree s) (offences (tree s))

@@ -3,20 +3,20 @@ use Prim.Native.Nat.{ℕ, zero, suc, _*_, _<_, _≤_}
 use mathlib.Core.Path.{_≡_, refl, ap, _∙_, sym, subst}
 use mathlib.Core.Bool.{Bool, true, false, true≢false}
 use mathlib.Core.List.{List, [], _∷_, _++_, List·Memᴰ, List·Memᴰ·tail, List·Memᴰ·head, List·Memᴰ·not-nil, List·Memᴰ·cases-cons}
-use mathlib.Core.Logic.{_⊎_, inl, inr, ⊎-elim, _↔_}
+use mathlib.Core.Logic.{_⊎_, ⊎-elim, _↔_}
 use native.Mathlib.Omega.{arith}
-use borrow.Author.Tests.{ltb-true, ltb-false, eqb-true, eqb-false, eq-eqb}
-use lib.Dec.{ltb, eqb}
+use borrow.Author.Tests.{ltb-true, ltb-false, eq-eqb}
+use lib.Dec.{ltb}
 use lib.ListN.{length}
 use Rattle.image.specs.Pick.{pick}
 use Rattle.image.specs.Admit.{refusal}
 use Rattle.rules.specs.Tree.{Tree, tree}
 use Rattle.rules.specs.Vocabulary.{Rec}
 use Rattle.rules.specs.Model.{StateName, isState, DeclaredAsset, isDeclaredAsset, KnownAsset, isKnownAsset}
-use Rattle.rules.specs.All.{offences, Before, Ordered, key, verdict, FullList}
-use Rattle.rules.specs.Passes.{Pass, resolving, accessing, linearity, ofPass, None, First, Judges}
-use Rattle.rules.specs.Answers.{Answer, imageRefused, accepted, refusedAt, firstOf, passAnswer, Reply, replyRefused, replied, ask, laid, Listing, listed, listAnswer, listBuffer}
-use Rattle.rules.specs.Allowed.{Refused, Admitted, PassAllowed, ReplyAllowed}
+use Rattle.rules.specs.All.{offences, Before, Ordered, key, FullList}
+use Rattle.rules.specs.Passes.{PassRules, resolving, accessing, linearity, ofPass, None, FirstOffence, Judges}
+use Rattle.rules.specs.Answers.{Answer, imageRefused, accepted, refusedAt, verdict, passAnswer, NameReply, replyRefused, replied, ask, laid, ListReply, listHas, listAnswer, listBuffer}
+use Rattle.rules.specs.Allowed.{IsRefused, IsAdmitted, PassAllowed, ReplyAllowed}
 use Rattle.rules.specs.Demands.{EachPass, EachQuestion, Number, TooShort, Demand-1, Demand-2, Demand-3}
 use Rattle.rules.proofs.Reflect.{Tells}
 use Rattle.rules.proofs.Model.{tells-isState, tells-isDeclaredAsset, tells-isKnownAsset}
@@ -24,76 +24,72 @@ use Rattle.rules.proofs.Unique.{never, full-list-unique}
 use Rattle.rules.proofs.Full.{full, only-full}
 use Rattle.rules.proofs.Passes.{judges-resolve, judges-access, judges-linear}
 use Rattle.rules.proofs.Numbers.{equal-numbers}
-use Rattle.rules.proofs.Answers.{decide, refusal-most, pass-admitted, pass-allowed, ask-allowed, list-refused, list-short, list-listed, buffer-refused, buffer-short, buffer-listed}
+use Rattle.rules.proofs.Answers.{decide, refusal-most, pass-admitted, decided, pass-allowed, ask-allowed, list-refused, list-short, list-listed, buffer-refused, buffer-short, buffer-listed}
 
 -- an image that is refused by a number is not admitted
-broken : (s : List ℕ) {r : ℕ} → Number r → refusal s ≡ r → Refused s
+broken : (s : List ℕ) {r : ℕ} → Number r → refusal s ≡ r → IsRefused s
 broken s n e z = omega arith
 
 -- A pass
 
-module _ (p : Pass) (codes : 9 ≤ p .least) (j : (s : List ℕ) → Admitted s → Judges (tree s) p) (s : List ℕ) where
+module _ (p : PassRules) (codes : 9 ≤ p .least) (j : (s : List ℕ) → IsAdmitted s → Judges (tree s) p) (s : List ℕ) where
   abbrev a : Answer
   a = passAnswer (p .part) s
 
   allowed : PassAllowed p s a
   allowed = pass-allowed p s (j s)
 
-  decided : Admitted s → None (tree s) p ⊎ ((r : Rec) × First (tree s) p r)
-  decided e = go (eqb (verdict (p .part (tree s)) .code) 0) refl
-    where
-      go : (b : Bool) → eqb (verdict (p .part (tree s)) .code) 0 ≡ b → None (tree s) p ⊎ ((r : Rec) × First (tree s) p r)
-      go true q = inl (j s e .accepts-none .0 (eqb-true _ _ q))
-      go false q = inr (j s e .has-first (eqb-false _ _ q))
+  none-or-first : IsAdmitted s → None (tree s) p ⊎ ((r : Rec) × FirstOffence (tree s) p r)
+  none-or-first = decided p s (j s)
 
   -- a pass that refuses an admitted image does so with one of its codes
-  coded : (e : Admitted s) (r : Rec) → First (tree s) p r → p .least ≤ a .number
+  coded : (e : IsAdmitted s) (r : Rec) → FirstOffence (tree s) p r → p .least ≤ a .number
   coded e r f =
       let n : a .number ≡ r .code = ap (λ (x : Answer). x .number) (allowed .refuses e r f) in
       let c = f .of .0 in
       omega arith
 
-  zeros : Refused s → a ≡ imageRefused (refusal s)
+  zeros : IsRefused s → a ≡ imageRefused (refusal s)
   zeros = allowed .refused
 
-  refuses : Admitted s → (r : Rec) → First (tree s) p r → a ≡ refusedAt s (r .code) (r .place)
+  refuses : IsAdmitted s → (r : Rec) → FirstOffence (tree s) p r → a ≡ refusedAt s (r .code) (r .place)
   refuses = allowed .refuses
 
   pass-number : (r : ℕ) → Number r → (a .number ≡ r) ↔ (refusal s ≡ r)
   pass-number r n =
       (λ q. ⊎-elim (λ e. absurd (admitted q e)) (λ x. sym (number-refused x) ∙ q) (decide s), λ q. number-refused (broken s n q) ∙ q)
     where
-      number-refused : Refused s → a .number ≡ refusal s
+      number-refused : IsRefused s → a .number ≡ refusal s
       number-refused x = ap (λ (y : Answer). y .number) (allowed .refused x)
 
-      admitted : a .number ≡ r → Admitted s → ⊥
+      admitted : a .number ≡ r → IsAdmitted s → ⊥
       admitted q e =
           ⊎-elim
           (λ (x : None (tree s) p). let z : a .number ≡ 0 = ap (λ (y : Answer). y .number) (allowed .accepts e x) in omega arith)
-          (λ (f : (r : Rec) × First (tree s) p r). let z = coded e (f .0) (f .1) in omega arith)
-          (decided e)
+          (λ (f : (r : Rec) × FirstOffence (tree s) p r). let z = coded e (f .0) (f .1) in omega arith)
+          (none-or-first e)
 
-  accepts : Admitted s → (a ≡ accepted) ↔ None (tree s) p
-  accepts e = (λ q. ⊎-elim (λ x. x) (λ f. absurd (refused q f)) (decided e), allowed .accepts e)
+  accepts : IsAdmitted s → (a ≡ accepted) ↔ None (tree s) p
+  accepts e = (λ q. ⊎-elim (λ x. x) (λ f. absurd (refused q f)) (none-or-first e), allowed .accepts e)
     where
-      refused : a ≡ accepted → (r : Rec) × First (tree s) p r → ⊥
+      refused : a ≡ accepted → (r : Rec) × FirstOffence (tree s) p r → ⊥
       refused q f = let z = coded e (f .0) (f .1) in let n : a .number ≡ 0 = ap (λ (y : Answer). y .number) q in omega arith
 
   -- the list's records of the pass are its part
-  part : (e : Admitted s) (l : List Rec) → FullList (tree s) l → ofPass p l ≡ p .part (tree s)
+  part : (e : IsAdmitted s) (l : List Rec) → FullList (tree s) l → ofPass p l ≡ p .part (tree s)
   part e l f = ap (ofPass p) (only-full s e l f) ∙ j s e .part
 
-  accepts-list : Admitted s → (l : List Rec) → FullList (tree s) l → (a ≡ accepted) ↔ (ofPass p l ≡ [])
+  accepts-list : IsAdmitted s → (l : List Rec) → FullList (tree s) l → (a ≡ accepted) ↔ (ofPass p l ≡ [])
   accepts-list e l f = (
-    λ q. part e l f ∙ sym (j s e .part) ∙ j s e .accepts .0 (j s e .accepts-none .1 (accepts e .0 q)),
-    λ q. pass-admitted (p .part) s e ∙ ap (firstOf s) (sym (part e l f) ∙ q),
+    λ q. part e l f ∙ j s e .accepts .1 (accepts e .0 q),
+    λ q. pass-admitted (p .part) s e ∙ ap (verdict s) (sym (part e l f) ∙ q),
   )
 
-  refuses-list : Admitted s → (l : List Rec) → FullList (tree s) l → (r : Rec) (m : List Rec) → ofPass p l ≡ r ∷ m → a ≡ refusedAt s (r .code) (r .place)
-  refuses-list e l f r m q = pass-admitted (p .part) s e ∙ ap (firstOf s) (sym (part e l f) ∙ q)
+  refuses-list : IsAdmitted s → (l : List Rec) → FullList (tree s) l → (r : Rec) (m : List Rec) → ofPass p l ≡ r ∷ m → a ≡ refusedAt s (r .code) (r .place)
+  refuses-list e l f r m q = pass-admitted (p .part) s e ∙ ap (verdict s) (sym (part e l f) ∙ q)
 
 -- what holds of a pass whose codes are no refusals and that judges as it should holds of each
-each : {P : Pass → Type 0} → ((p : Pass) → 9 ≤ p .least → ((s : List ℕ) → Admitted s → Judges (tree s) p) → P p) → EachPass P
+each : {P : PassRules → Type 0} → ((p : PassRules) → 9 ≤ p .least → ((s : List ℕ) → IsAdmitted s → Judges (tree s) p) → P p) → EachPass P
 each f = (f resolving (omega arith) judges-resolve, f accessing (omega arith) judges-access, f linearity (omega arith) judges-linear)
 
 -- A question
@@ -102,29 +98,29 @@ module _ (q : Tree → List ℕ → Bool) (Q : Tree → List ℕ → Type 0) (h 
   allowed-reply : ReplyAllowed Q s w (ask q s w)
   allowed-reply = ask-allowed q Q h s w
 
-  ask-zeros : Refused s → ask q s w ≡ replyRefused (refusal s)
+  ask-zeros : IsRefused s → ask q s w ≡ replyRefused (refusal s)
   ask-zeros = allowed-reply .refused
 
-  ask-admitted : Admitted s → ask q s w ≡ replied (q (tree s) w)
+  ask-admitted : IsAdmitted s → ask q s w ≡ replied (q (tree s) w)
   unfolding ask
   ask-admitted e = ap (λ (b : Bool). pick b (replied (q (tree s) w)) (replyRefused (refusal s))) (eq-eqb (refusal s) 0 e)
 
   -- the bit that it answers
-  bit : Admitted s → (b : Bool) → ask q s w ≡ replied b → q (tree s) w ≡ b
-  bit e b x = sym (ap (λ (y : Reply). y .yes) (ask-admitted e)) ∙ ap (λ (y : Reply). y .yes) x
+  bit : IsAdmitted s → (b : Bool) → ask q s w ≡ replied b → q (tree s) w ≡ b
+  bit e b x = sym (ap (λ (y : NameReply). y .yes) (ask-admitted e)) ∙ ap (λ (y : NameReply). y .yes) x
 
   ask-number : (r : ℕ) → Number r → (ask q s w .number ≡ r) ↔ (refusal s ≡ r)
   ask-number r n = (
     λ x. ⊎-elim
-        (λ e. let z : ask q s w .number ≡ 0 = ap (λ (y : Reply). y .number) (ask-admitted e) in absurd (omega arith))
-        (λ e. sym (ap (λ (y : Reply). y .number) (allowed-reply .refused e)) ∙ x) (decide s),
-    λ x. ap (λ (y : Reply). y .number) (allowed-reply .refused (broken s n x)) ∙ x,
+        (λ e. let z : ask q s w .number ≡ 0 = ap (λ (y : NameReply). y .number) (ask-admitted e) in absurd (omega arith))
+        (λ e. sym (ap (λ (y : NameReply). y .number) (allowed-reply .refused e)) ∙ x) (decide s),
+    λ x. ap (λ (y : NameReply). y .number) (allowed-reply .refused (broken s n x)) ∙ x,
   )
 
-  ask-yes : Admitted s → (ask q s w ≡ replied true) ↔ Q (tree s) w
+  ask-yes : IsAdmitted s → (ask q s w ≡ replied true) ↔ Q (tree s) w
   ask-yes e = (λ x. h (tree s) w .so (bit e true x), allowed-reply .yes e)
 
-  ask-no : Admitted s → (ask q s w ≡ replied false) ↔ (Q (tree s) w → ⊥)
+  ask-no : IsAdmitted s → (ask q s w ≡ replied false) ↔ (Q (tree s) w → ⊥)
   ask-no e = (λ x f. true≢false (sym (h (tree s) w .back f) ∙ bit e false x), allowed-reply .no e)
 
 each-question :
@@ -140,7 +136,7 @@ module _ (s : List ℕ) where
   count = length (offences (tree s))
 
   -- every full list has so many records
-  many : Admitted s → (l : List Rec) → FullList (tree s) l → length l ≡ count
+  many : IsAdmitted s → (l : List Rec) → FullList (tree s) l → length l ≡ count
   many e l f = ap length (only-full s e l f)
 
   module _ (o : List ℕ) where
@@ -149,17 +145,17 @@ module _ (s : List ℕ) where
 
     -- the cases of its answer
     data Cases : Type 0 where
-      refused : Refused s → n ≡ refusal s → Cases
-      short : Admitted s → length o < 3 * count → n ≡ 9 → Cases
-      roomy : Admitted s → 3 * count ≤ length o → n ≡ 0 → Cases
+      refused : IsRefused s → n ≡ refusal s → Cases
+      short : IsAdmitted s → length o < 3 * count → n ≡ 9 → Cases
+      roomy : IsAdmitted s → 3 * count ≤ length o → n ≡ 0 → Cases
 
-    number-is : {x : Listing} → listAnswer s (length o) ≡ x → n ≡ x .number
-    number-is e = ap (λ (y : Listing). y .number) e
+    number-is : {x : ListReply} → listAnswer s (length o) ≡ x → n ≡ x .number
+    number-is e = ap (λ (y : ListReply). y .number) e
 
     cases : Cases
     cases = ⊎-elim (λ e. go e (ltb (length o) (3 * count)) refl) (λ x. refused x (number-is (list-refused s (length o) x))) (decide s)
       where
-        go : Admitted s → (b : Bool) → ltb (length o) (3 * count) ≡ b → Cases
+        go : IsAdmitted s → (b : Bool) → ltb (length o) (3 * count) ≡ b → Cases
         go e true q = let l = ltb-true _ _ q in short e l (number-is (list-short s (length o) e l))
         go e false q = let l = ltb-false _ _ q in roomy e l (number-is (list-listed s (length o) e l))
 
@@ -182,11 +178,11 @@ module _ (s : List ℕ) where
         so (short e l z) q = (e, (offences (tree s), full s e, l))
         so (roomy e l z) q = absurd (omega arith)
 
-    listed-is : Admitted s → (l : List Rec) → FullList (tree s) l → 3 * length l ≤ length o → (listAnswer s (length o) ≡ listed (length l)) × (listBuffer s o ≡ laid o 0 l)
+    listed-is : IsAdmitted s → (l : List Rec) → FullList (tree s) l → 3 * length l ≤ length o → (listAnswer s (length o) ≡ listHas (length l)) × (listBuffer s o ≡ laid o 0 l)
     listed-is e l f h =
         let z = many e l f in
         let g : 3 * count ≤ length o = omega arith in
-        (list-listed s (length o) e g ∙ ap listed (sym z), buffer-listed s o e g ∙ ap (laid o 0) (sym (only-full s e l f)))
+        (list-listed s (length o) e g ∙ ap listHas (sym z), buffer-listed s o e g ∙ ap (laid o 0) (sym (only-full s e l f)))
 
 -- a record stands before the later ones, so not among them, and not among the earlier ones
 once : (k : Rec → List ℕ) (a b : List Rec) (r : Rec) → Ordered k (a ++ (r ∷ b)) → (List·Memᴰ r a → ⊥) × (List·Memᴰ r b → ⊥)
@@ -221,7 +217,7 @@ pub demand-2 : Demand-2
 demand-2 = record {
   accepts = each accepts;
   refuses = each refuses;
-  decided = each decided;
+  decided = each none-or-first;
   yes = each-question ask-yes;
   no = each-question ask-no;
   names = equal-numbers;

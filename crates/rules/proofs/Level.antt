@@ -201,5 +201,5 @@ module _ {key : Rec → List ℕ} where
   }
 
   -- from places up to groups
-  pub group : {a b c d x y : ℕ} {l : List Rec} → Level key (a ∷ b ∷ c ∷ d ∷ []) x y l → Level key (a ∷ []) b (suc b) l
-  group {a} {b} {c} {d} p = level-up {k = a ∷ []} {x = b} (level-up {k = a ∷ b ∷ []} {x = c} (level-up {k = a ∷ b ∷ c ∷ []} {x = d} p))
+  pub group : {a b c x y : ℕ} {l : List Rec} → Level key (a ∷ b ∷ c ∷ []) x y l → Level key [] a (suc a) l
+  group {a} {b} {c} p = level-up {k = []} {x = a} (level-up {k = a ∷ []} {x = b} (level-up {k = a ∷ b ∷ []} {x = c} p))

@@ -14,8 +14,8 @@ use Rattle.rules.specs.Vocabulary.{Rec}
 use Rattle.rules.specs.Resolve.{resolve}
 use Rattle.rules.specs.Access.{access}
 use Rattle.rules.specs.Linear.{linear}
-use Rattle.rules.specs.All.{Offence, offences, Ordered, key, verdict}
-use Rattle.rules.specs.Passes.{Pass, resolving, accessing, linearity, Of, ofPass, None, First, Judges}
+use Rattle.rules.specs.All.{Offence, offences, Ordered, key}
+use Rattle.rules.specs.Passes.{PassRules, resolving, accessing, linearity, Of, ofPass, None, FirstOffence, Judges}
 use Rattle.rules.proofs.Reflect.{Tells, Finds, tells-both, finds-as}
 use Rattle.rules.proofs.Resolve.{Found24, Found35, finds-resolve, unknown-so}
 use Rattle.rules.proofs.Access.{finds-access}
@@ -26,7 +26,7 @@ use Rattle.rules.proofs.Full.{full}
 
 -- The records of a pass among those of a list
 
-module _ (p : Pass) where
+module _ (p : PassRules) where
   tells-of : (r : Rec) → Tells (both (leb (p .least) (r .code)) (leb (r .code) (p .most))) (Of p r)
   tells-of r = tells-both (record { so = leb-true _ _; back = le-leb _ _ }) (record { so = leb-true _ _; back = le-leb _ _ })
 
@@ -84,7 +84,7 @@ module _ (p : Pass) where
 -- The codes of each pass's records
 
 -- a record of code c, whatever else is known of it
-code : (p : Pass) (r : Rec) {c : ℕ} {P : Type 0} → both (leb (p .least) c) (leb c (p .most)) ≡ true → (r .code ≡ c) × P → Of p r
+code : (p : PassRules) (r : Rec) {c : ℕ} {P : Type 0} → both (leb (p .least) c) (leb c (p .most)) ≡ true → (r .code ≡ c) × P → Of p r
 code p r {c} e s =
     let h : (p .least ≤ c) × (c ≤ p .most) = tells-both (record { so = leb-true _ _; back = le-leb _ _ }) (record { so = leb-true _ _; back = le-leb _ _ }) .so e in
     let q = s .0 in
@@ -113,86 +113,79 @@ module _ (t : Tree) (r : Rec) where
   of-linear m = ⊎-elim (code linearity r refl) (⊎-elim (code linearity r refl) (code linearity r refl)) (finds-linear t .so r m)
 
 -- a list of three parts, of which one has the pass's records
-module _ (p : Pass) (a b c : List Rec) where
+module _ (p : PassRules) (a b c : List Rec) where
   parts : ofPass p (a ++ (b ++ c)) ≡ ofPass p a ++ (ofPass p b ++ ofPass p c)
   parts = of-append p a (b ++ c) ∙ ap (λ (l : List Rec). ofPass p a ++ l) (of-append p b c)
 
 module _ (t : Tree) where
-  part-resolve : ofPass resolving (offences t) ≡ resolve t
+  -- what is left of each part
+  left-of : (p : PassRules) {a b c : List Rec} → ofPass p (resolve t) ≡ a → ofPass p (access t) ≡ b → ofPass p (linear t) ≡ c → ofPass p (offences t) ≡ a ++ (b ++ c)
   unfolding offences
-  part-resolve =
-      parts resolving (resolve t) (access t) (linear t)
-      ∙ ap₂ _++_ (of-all resolving (resolve t) (of-resolve t))
-      (ap₂ _++_ (of-none resolving (access t) (λ r m h. let u = of-access t r m in omega arith)) (of-none resolving (linear t) (λ r m h. let u = of-linear t r m in omega arith)))
-      ∙ append-nil (resolve t)
+  left-of p x y z = parts p (resolve t) (access t) (linear t) ∙ ap₂ _++_ x (ap₂ _++_ y z)
+
+  -- a part has nothing of another pass
+  resolve-not : (p : PassRules) → ((r : Rec) → Of resolving r → Of p r → ⊥) → ofPass p (resolve t) ≡ []
+  resolve-not p n = of-none p (resolve t) (λ r m. n r (of-resolve t r m))
+
+  access-not : (p : PassRules) → ((r : Rec) → Of accessing r → Of p r → ⊥) → ofPass p (access t) ≡ []
+  access-not p n = of-none p (access t) (λ r m. n r (of-access t r m))
+
+  linear-not : (p : PassRules) → ((r : Rec) → Of linearity r → Of p r → ⊥) → ofPass p (linear t) ≡ []
+  linear-not p n = of-none p (linear t) (λ r m. n r (of-linear t r m))
+
+  part-resolve : ofPass resolving (offences t) ≡ resolve t
+  part-resolve = left-of resolving (of-all resolving (resolve t) (of-resolve t)) (access-not resolving (λ r u h. omega arith)) (linear-not resolving (λ r u h. omega arith)) ∙ append-nil (resolve t)
 
   part-access : ofPass accessing (offences t) ≡ access t
-  unfolding offences
-  part-access =
-      parts accessing (resolve t) (access t) (linear t)
-      ∙ ap₂ _++_ (of-none accessing (resolve t) (λ r m h. let u = of-resolve t r m in omega arith))
-      (ap₂ _++_ (of-all accessing (access t) (of-access t)) (of-none accessing (linear t) (λ r m h. let u = of-linear t r m in omega arith)))
-      ∙ append-nil (access t)
+  part-access = left-of accessing (resolve-not accessing (λ r u h. omega arith)) (of-all accessing (access t) (of-access t)) (linear-not accessing (λ r u h. omega arith)) ∙ append-nil (access t)
 
   part-linear : ofPass linearity (offences t) ≡ linear t
-  unfolding offences
-  part-linear =
-      parts linearity (resolve t) (access t) (linear t)
-      ∙ ap₂ _++_ (of-none linearity (resolve t) (λ r m h. let u = of-resolve t r m in omega arith))
-      (ap₂ _++_ (of-none linearity (access t) (λ r m h. let u = of-access t r m in omega arith)) (of-all linearity (linear t) (of-linear t)))
+  part-linear = left-of linearity (resolve-not linearity (λ r u h. omega arith)) (access-not linearity (λ r u h. omega arith)) (of-all linearity (linear t) (of-linear t))
 
 -- What a pass does, of the records in its part
 
-module _ (t : Tree) (p : Pass) (some : 1 ≤ p .least) where
+module _ (t : Tree) (p : PassRules) where
   abbrev Mine : List Rec → Type 0
   Mine l = Finds l (λ r. Offence t r × Of p r)
 
-  accepts : (l : List Rec) → Mine l → (verdict l .code ≡ 0) ↔ (l ≡ [])
-  accepts [] f = (λ e. refl, λ e. refl)
-  accepts (r ∷ l) f = (λ e. let o = f .so r (List·Memᴰ·head refl) .1 in absurd (omega arith), λ e. let z : _≡_ {A = ℕ} 0 1 = cc in absurd (omega arith))
+  accepts : (l : List Rec) → Mine l → (l ≡ []) ↔ None t p
+  accepts [] f = (λ e r x y. List·Memᴰ·not-nil (f .back r (x, y)), λ n. refl)
+  accepts (r ∷ l) f =
+      let o = f .so r (List·Memᴰ·head refl) in
+      (λ e. absurd (List·Memᴰ·not-nil (subst (λ (m : List Rec). List·Memᴰ r m) e (List·Memᴰ·head refl))), λ n. absurd (n r (o .0) (o .1)))
 
-  accepts-none : (l : List Rec) → Mine l → (verdict l .code ≡ 0) ↔ None t p
-  accepts-none [] f = (λ e r x y. List·Memᴰ·not-nil (f .back r (x, y)), λ n. refl)
-  accepts-none (r ∷ l) f = let o = f .so r (List·Memᴰ·head refl) in (λ e. let h = o .1 in absurd (omega arith), λ n. absurd (n r (o .0) (o .1)))
-
-  has-first : (l : List Rec) → Mine l → Ordered (key t) l → (verdict l .code ≡ 0 → ⊥) → (r : Rec) × First t p r
+  has-first : (l : List Rec) → Mine l → Ordered (key t) l → (l ≡ [] → ⊥) → (r : Rec) × FirstOffence t p r
   unfolding Ordered
   has-first [] f o n = absurd (n refl)
   has-first (r ∷ l) f o n =
       let h = f .so r (List·Memᴰ·head refl) in
       (r, record { is = h .0; of = h .1; first = λ q x y. ⊎-elim inl (λ m. inr (o .0 q m)) (List·Memᴰ·cases-cons (f .back q (x, y))) })
 
-  refuses : (l : List Rec) → Mine l → Ordered (key t) l → (r : Rec) → First t p r → verdict l ≡ record { code = r .code; place = r .place }
+  refuses : (l : List Rec) → Mine l → Ordered (key t) l → (r : Rec) → FirstOffence t p r → (m : List Rec) × (l ≡ r ∷ m)
   unfolding Ordered
   refuses [] f o r h = absurd (List·Memᴰ·not-nil (f .back r (h .is, h .of)))
   refuses (q ∷ l) f o r h =
-      ⊎-elim says
+      ⊎-elim begins
       (λ (m : List·Memᴰ r l).
       let u = f .so q (List·Memᴰ·head refl) in
-      ⊎-elim (λ (e : q ≡ r). says (sym e)) (λ b. absurd (apart (key t q) (key t r) (o .0 r m) b)) (h .first q (u .0) (u .1)))
+      ⊎-elim (λ (e : q ≡ r). begins (sym e)) (λ b. absurd (apart (key t q) (key t r) (o .0 r m) b)) (h .first q (u .0) (u .1)))
       (List·Memᴰ·cases-cons (f .back r (h .is, h .of)))
     where
-      says : r ≡ q → verdict (q ∷ l) ≡ record { code = r .code; place = r .place }
-      says e = ap (λ (x : Rec). verdict (x ∷ l)) (sym e)
+      begins : r ≡ q → (m : List Rec) × (q ∷ l ≡ r ∷ m)
+      begins e = (l, ap (λ (x : Rec). x ∷ l) (sym e))
 
   pub judged : Ordered (key t) (offences t) → ofPass p (offences t) ≡ p .part t → Judges t p
   judged o e =
       let f : Mine (p .part t) = subst Mine e (finds-as (λ r h. (finds-offences t .so r (h .0), h .1)) (λ r h. (finds-offences t .back r (h .0), h .1)) (finds-of p (offences t))) in
       let i : Ordered (key t) (p .part t) = subst (Ordered (key t)) e (ordered-of p (key t) (offences t) o) in
-      record {
-        part = e;
-        accepts = (λ z. e ∙ accepts (p .part t) f .0 z, λ z. accepts (p .part t) f .1 (sym e ∙ z));
-        accepts-none = accepts-none (p .part t) f;
-        has-first = has-first (p .part t) f i;
-        refuses = refuses (p .part t) f i;
-      }
+      record { part = e; accepts = accepts (p .part t) f; has-first = has-first (p .part t) f i; refuses = refuses (p .part t) f i }
 
 module _ (s : List ℕ) (e : refusal s ≡ 0) where
   pub judges-resolve : Judges (tree s) resolving
-  judges-resolve = judged (tree s) resolving (omega arith) (full s e .ordered) (part-resolve (tree s))
+  judges-resolve = judged (tree s) resolving (full s e .ordered) (part-resolve (tree s))
 
   pub judges-access : Judges (tree s) accessing
-  judges-access = judged (tree s) accessing (omega arith) (full s e .ordered) (part-access (tree s))
+  judges-access = judged (tree s) accessing (full s e .ordered) (part-access (tree s))
 
   pub judges-linear : Judges (tree s) linearity
-  judges-linear = judged (tree s) linearity (omega arith) (full s e .ordered) (part-linear (tree s))
+  judges-linear = judged (tree s) linearity (full s e .ordered) (part-linear (tree s))

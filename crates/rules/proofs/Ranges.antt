@@ -12,7 +12,8 @@ use Rattle.image.proofs.Every.{both-left, both-right}
 use Rattle.rules.specs.Sweep.{either, has}
 use Rattle.rules.specs.Tree.{Tree, param}
 use Rattle.rules.specs.Vocabulary.{Rec, Below, below, CallIn, calls, Signer, signers}
-use Rattle.rules.specs.All.{key, latest, holder, items, itemOf, Flat, parts, Formed}
+use Rattle.rules.specs.All.{key, latest, holder, items}
+use Rattle.rules.specs.Standing.{Flat, parts, Formed}
 use Rattle.rules.proofs.Reflect.{Tells, tells-has, tells-both, tells-eqb, tells-ltb, tells-either, tells-not, tells-as, narrow}
 use Rattle.rules.proofs.Level.{Level, level-wide, level-keep, level-below}
 
@@ -122,33 +123,40 @@ module _ (t : Tree) (F : Formed t) where
         latest-none _ (suc (t .root)) (p - t .root)
         (λ y u v e. let w = told p y .so e in h y (record { after = u; inside = omega arith; kind = w .0 }) (omega arith) (w .1))
 
-  pub item-of : {ks : List ℕ} {i : ℕ} (p : ℕ) → subset ks items ≡ true → Below t ks (t .root) i → i ≤ p → p < t .end i → itemOf t p ≡ i
-  item-of {i = i} p e b l h = holder-is items i p (F .items-flat) (wider items e b) l h
+  -- of kinds that do not hold each other: a node held by one of some of them is held by that one alone
+  module _ (all : List ℕ) (f : Flat t all) where
+    held-by : {ks : List ℕ} {x : ℕ} (js : List ℕ) (p : ℕ) → subset js all ≡ true → subset ks js ≡ true → Below t ks (t .root) x → x ≤ p → p < t .end x → holder t js p ≡ x
+    held-by {x = x} js p q e b l h = holder-is js x p (λ i j u v. f i j (wider all q u) (wider all q v)) (wider js e b) l h
 
-  flat-sub : (ks : List ℕ) → subset ks parts ≡ true → Flat t ks
-  flat-sub ks e i j a b = F .parts-flat i j (wider parts e a) (wider parts e b)
+    one-holder : {x y : ℕ} (p : ℕ) → Below t all (t .root) x → Below t all (t .root) y → x ≤ p → p < t .end x → y ≤ p → p < t .end y → x ≡ y
+    one-holder {x} {y} p a b l h m n = go (ltb x y) refl (ltb y x) refl
+      where
+        go : (u : Bool) → ltb x y ≡ u → (v : Bool) → ltb y x ≡ v → x ≡ y
+        go true u v w = let z = follows all f a b (ltb-true x y u) in absurd (omega arith)
+        go false u true w = let z = follows all f b a (ltb-true y x w) in absurd (omega arith)
+        go false u false w = let z = ltb-false x y u in let v = ltb-false y x w in omega arith
+
+    held-by-none : {js : List ℕ} {x : ℕ} (ks : List ℕ) (p : ℕ) → subset js all ≡ true → subset ks all ≡ true → disjoint js ks ≡ true → Below t js (t .root) x → x ≤ p → p < t .end x → holder t ks p ≡ 0
+    held-by-none {js} {x} ks p q e d b l g =
+        let a = b .after in
+        let n = item-ends b in
+        holder-none ks p (omega arith) (omega arith)
+        (λ y c u v.
+        let w : x ≡ y = one-holder p (wider all q b) (wider all e c) l g u v in
+        other js ks d (b .kind) (subst (λ (z : ℕ). List·Memᴰ (t .kind z) ks) (sym w) (c .kind)))
+
+  -- the item that holds p, and the part
+  pub item-of : {ks : List ℕ} {i : ℕ} (js : List ℕ) (p : ℕ) → subset js items ≡ true → subset ks js ≡ true → Below t ks (t .root) i → i ≤ p → p < t .end i → holder t js p ≡ i
+  item-of = held-by items (F .items-flat)
+
+  pub not-item : {js : List ℕ} {x : ℕ} (ks : List ℕ) (p : ℕ) → subset js items ≡ true → subset ks items ≡ true → disjoint js ks ≡ true → Below t js (t .root) x → x ≤ p → p < t .end x → holder t ks p ≡ 0
+  not-item = held-by-none items (F .items-flat)
 
   pub part-of : {ks : List ℕ} {x : ℕ} (js : List ℕ) (p : ℕ) → subset js parts ≡ true → subset ks js ≡ true → Below t ks (t .root) x → x ≤ p → p < t .end x → holder t js p ≡ x
-  part-of {x = x} js p q e b l h = holder-is js x p (flat-sub js q) (wider js e b) l h
+  part-of = held-by parts (F .parts-flat)
 
-  -- a node held by one part is held by none of other kinds
   pub not-held : {js : List ℕ} {x : ℕ} (ks : List ℕ) (p : ℕ) → subset js parts ≡ true → subset ks parts ≡ true → disjoint js ks ≡ true → Below t js (t .root) x → x ≤ p → p < t .end x → holder t ks p ≡ 0
-  not-held {js} {x} ks p q e d b l g =
-      let a = b .after in
-      let n = item-ends b in
-      holder-none ks p (omega arith) (omega arith)
-      (λ y c u v.
-      let w : x ≡ y = one-part p (wider parts q b) (wider parts e c) l g u v in
-      other js ks d (b .kind) (subst (λ (z : ℕ). List·Memᴰ (t .kind z) ks) (sym w) (c .kind)))
-    where
-      -- two parts that hold one node are one part
-      one-part : {x y : ℕ} (p : ℕ) → Below t parts (t .root) x → Below t parts (t .root) y → x ≤ p → p < t .end x → y ≤ p → p < t .end y → x ≡ y
-      one-part {x} {y} p a b l h m n = go (ltb x y) refl (ltb y x) refl
-        where
-          go : (u : Bool) → ltb x y ≡ u → (v : Bool) → ltb y x ≡ v → x ≡ y
-          go true u v w = let z = follows parts (F .parts-flat) a b (ltb-true x y u) in absurd (omega arith)
-          go false u true w = let z = follows parts (F .parts-flat) b a (ltb-true y x w) in absurd (omega arith)
-          go false u false w = let z = ltb-false x y u in let v = ltb-false y x w in omega arith
+  not-held = held-by-none parts (F .parts-flat)
 
   -- Sweeps. Each node gives records of its own place;
   pub own-after : {k ks : List ℕ} {f : ℕ → List Rec} (a : ℕ) → a < t .end a → ((i : ℕ) → Below t ks a i → Level (key t) k i (suc i) (f i)) → Level (key t) k (suc a) (t .end a) (below t ks a f)

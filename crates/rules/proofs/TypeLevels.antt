@@ -1,4 +1,4 @@
--- 23: the 64 levels to which the types of a signature text are written are enough. On an admitted image, where no node has over 64
+-- 23: the levels to which the types of a signature text are written are enough. On an admitted image, where no node has over 64
 -- ancestors, more levels write the same.
 use Prim.Native.Nat.{ℕ, zero, suc, _+_, _-_, _<_, _≤_}
 use mathlib.Core.Path.{_≡_, refl, ap, ap₂, _∙_, sym, subst}
@@ -9,6 +9,7 @@ use native.Mathlib.Nat.{eq-or-lt-of-le}
 use native.Mathlib.Omega.{arith}
 use borrow.Author.Tests.{ltb-true, lt-ltb}
 use lib.Dec.{ltb, eqb}
+use Rattle.image.specs.Maxima.{maxDepth}
 use Rattle.image.specs.Pick.{pick, count}
 use Rattle.image.specs.Node.{endOf}
 use Rattle.image.specs.Tree.{endsPast, ancestorsOf}
@@ -94,8 +95,8 @@ module _ (s : List ℕ) (e : refusal s ≡ 0) where
       ap (λ (w : List ℕ). comma (y + 2) a ++ w) (same-text l m a (omega arith) (omega arith) (omega arith))))
 
   -- every node but the contract
-  pub enough : (y m : ℕ) → 0 < y → y < nodeCount s → 64 ≤ m → typeText m (tree s) y ≡ typeText 64 (tree s) y
+  pub enough : (y m : ℕ) → 0 < y → y < nodeCount s → maxDepth ≤ m → typeText m (tree s) y ≡ typeText maxDepth (tree s) y
   enough y m h n l =
       let root : endOf (nodesOf s) 0 ≡ nodeCount s = given s e .nodes .root-end in
       let k = deeper 0 y (omega arith) h (omega arith) in
-      same-text 64 m y l n (omega arith)
+      same-text maxDepth m y l n (omega arith)

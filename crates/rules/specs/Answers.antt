@@ -9,7 +9,8 @@ use lib.Dec.{ltb, eqb}
 use lib.ListN.{length, take, drop}
 use lib.Seq.{sets}
 use Rattle.image.specs.Pick.{pick}
-use Rattle.image.specs.Admit.{refusal, word, nodesOf}
+use Rattle.image.specs.Admit.{refusal, nodesOf}
+use Rattle.image.specs.Node.{fullWord}
 use Rattle.rules.specs.Tree.{Tree, tree}
 use Rattle.rules.specs.Vocabulary.{Rec}
 use Rattle.rules.specs.Resolve.{resolve}
@@ -27,10 +28,10 @@ pub record Answer : Type 0 where
 
 -- the span words of node i of an image
 abbrev pub spanFrom : List ℕ → ℕ → ℕ
-spanFrom s i = word (nodesOf s) (16 * i + 8)
+spanFrom s i = fullWord (nodesOf s) (16 * i + 8)
 
 abbrev pub spanTo : List ℕ → ℕ → ℕ
-spanTo s i = word (nodesOf s) (16 * i + 12)
+spanTo s i = fullWord (nodesOf s) (16 * i + 12)
 
 -- its cases: the image is refused; the pass accepts; it refuses with a code and a place
 abbrev pub imageRefused : ℕ → Answer
@@ -42,31 +43,35 @@ accepted = record { number = 0; place = 0; from = 0; to = 0 }
 abbrev pub refusedAt : List ℕ → ℕ → ℕ → Answer
 refusedAt s c p = record { number = c; place = p; from = spanFrom s p; to = spanTo s p }
 
--- by its first record, or acceptance
-abbrev pub firstOf : List ℕ → List Rec → Answer
-firstOf s [] = accepted
-firstOf s (r ∷ l) = refusedAt s (r .code) (r .place)
+-- by the first record of a list, or none
+abbrev pub byFirst : {A : Type 0} → A → (Rec → A) → List Rec → A
+byFirst none of [] = none
+byFirst none of (r ∷ l) = of r
+
+-- a pass's verdict on an admitted image: it refuses by its first record, or accepts
+abbrev pub verdict : List ℕ → List Rec → Answer
+verdict s l = byFirst accepted (λ r. refusedAt s (r .code) (r .place)) l
 
 -- where the image's refusal is r
 abbrev pub unlessRefused : ℕ → Answer → Answer
 unlessRefused r a = pick (eqb r 0) a (imageRefused r)
 
 unfoldable pub passAnswer : (Tree → List Rec) → List ℕ → Answer
-passAnswer pass s = unlessRefused (refusal s) (firstOf s (pass (tree s)))
+passAnswer pass s = unlessRefused (refusal s) (verdict s (pass (tree s)))
 
 -- A question about a name: any bytes; yes, no, or refusal 1 to 8
 
-pub record Reply : Type 0 where
+pub record NameReply : Type 0 where
   pub number : ℕ
   pub yes : Bool
 
-abbrev pub replyRefused : ℕ → Reply
+abbrev pub replyRefused : ℕ → NameReply
 replyRefused r = record { number = r; yes = false }
 
-abbrev pub replied : Bool → Reply
+abbrev pub replied : Bool → NameReply
 replied b = record { number = 0; yes = b }
 
-unfoldable pub ask : (Tree → List ℕ → Bool) → List ℕ → List ℕ → Reply
+unfoldable pub ask : (Tree → List ℕ → Bool) → List ℕ → List ℕ → NameReply
 ask question s w = pick (eqb (refusal s) 0) (replied (question (tree s) w)) (replyRefused (refusal s))
 
 -- The list
@@ -80,22 +85,22 @@ words (r ∷ l) = r .code ∷ r .place ∷ r .related ∷ words l
 abbrev pub laid : List ℕ → ℕ → List Rec → List ℕ
 laid o k l = sets o (3 * k) (words l)
 
-pub record Listing : Type 0 where
+pub record ListReply : Type 0 where
   pub number : ℕ
   pub records : ℕ
 
-abbrev pub listRefused : ℕ → Listing
+abbrev pub listRefused : ℕ → ListReply
 listRefused r = record { number = r; records = 0 }
 
-abbrev pub listed : ℕ → Listing
-listed k = record { number = 0; records = k }
+abbrev pub listHas : ℕ → ListReply
+listHas k = record { number = 0; records = k }
 
 -- 9: its buffer has fewer than 3 words per offence
-unfoldable pub listAnswer : List ℕ → ℕ → Listing
+unfoldable pub listAnswer : List ℕ → ℕ → ListReply
 listAnswer s size =
     let k = length (offences (tree s)) in
     pick (eqb (refusal s) 0)
-    (pick (ltb size (3 * k)) (listRefused 9) (listed k))
+    (pick (ltb size (3 * k)) (listRefused 9) (listHas k))
     (listRefused (refusal s))
 
 -- the buffer afterwards: as it was on refusal, else with the records; words past the last record keep their values

@@ -13,13 +13,13 @@ use Rattle.rules.specs.Tree.{Tree, tree}
 use Rattle.rules.specs.Vocabulary.{Rec}
 use Rattle.rules.specs.Model.{StateName, isState, DeclaredAsset, isDeclaredAsset, KnownAsset, isKnownAsset}
 use Rattle.rules.specs.All.{FullList}
-use Rattle.rules.specs.Passes.{Pass, resolving, accessing, linearity, ofPass, None, First}
+use Rattle.rules.specs.Passes.{PassRules, resolving, accessing, linearity, ofPass, None, FirstOffence}
 use Rattle.rules.specs.Names.{EqualNumbers}
-use Rattle.rules.specs.Answers.{imageRefused, accepted, refusedAt, passAnswer, replyRefused, replied, ask, laid, listRefused, listed, listAnswer, listBuffer}
-use Rattle.rules.specs.Allowed.{Refused, Admitted}
+use Rattle.rules.specs.Answers.{imageRefused, accepted, refusedAt, passAnswer, replyRefused, replied, ask, laid, listRefused, listHas, listAnswer, listBuffer}
+use Rattle.rules.specs.Allowed.{IsRefused, IsAdmitted}
 
 -- of each pass; of each question about a name, with the fact that it asks for
-abbrev pub EachPass : (Pass → Type 0) → Type 0
+abbrev pub EachPass : (PassRules → Type 0) → Type 0
 EachPass P = P resolving × P accessing × P linearity
 
 abbrev pub EachQuestion : ((Tree → List ℕ → Bool) → (Tree → List ℕ → Type 0) → Type 0) → Type 0
@@ -31,19 +31,19 @@ Number r = (1 ≤ r) × (r ≤ 8)
 
 -- the image is admitted, and the buffer has fewer than three words for each offence
 abbrev pub TooShort : List ℕ → List ℕ → Type 0
-TooShort s o = Admitted s × ((l : List Rec) × FullList (tree s) l × (length o < 3 * length l))
+TooShort s o = IsAdmitted s × ((l : List Rec) × FullList (tree s) l × (length o < 3 * length l))
 
 -- Demand 1. A broken image is refused by a number from 1 to 8, and a list buffer that is too short by 9: an answer has that number
 -- exactly then, and place, spans and record count are 0. No lent byte or word has changed: image and name are only read, and the
 -- buffer afterwards is the buffer before.
 pub record Demand-1 : Type 0 where
-  pub numbers : (s : List ℕ) → Refused s → Number (refusal s)
+  pub numbers : (s : List ℕ) → IsRefused s → Number (refusal s)
   pub pass : EachPass (λ p. (s : List ℕ) (r : ℕ) → Number r → (passAnswer (p .part) s .number ≡ r) ↔ (refusal s ≡ r))
-  pub pass-zeros : EachPass (λ p. (s : List ℕ) → Refused s → passAnswer (p .part) s ≡ imageRefused (refusal s))
+  pub pass-zeros : EachPass (λ p. (s : List ℕ) → IsRefused s → passAnswer (p .part) s ≡ imageRefused (refusal s))
   pub question : EachQuestion (λ q Q. (s w : List ℕ) (r : ℕ) → Number r → (ask q s w .number ≡ r) ↔ (refusal s ≡ r))
-  pub question-zeros : EachQuestion (λ q Q. (s w : List ℕ) → Refused s → ask q s w ≡ replyRefused (refusal s))
+  pub question-zeros : EachQuestion (λ q Q. (s w : List ℕ) → IsRefused s → ask q s w ≡ replyRefused (refusal s))
   pub list : (s o : List ℕ) (r : ℕ) → Number r → (listAnswer s (length o) .number ≡ r) ↔ (refusal s ≡ r)
-  pub list-zeros : (s o : List ℕ) → Refused s → (listAnswer s (length o) ≡ listRefused (refusal s)) × (listBuffer s o ≡ o)
+  pub list-zeros : (s o : List ℕ) → IsRefused s → (listAnswer s (length o) ≡ listRefused (refusal s)) × (listBuffer s o ≡ o)
   pub short : (s o : List ℕ) → (listAnswer s (length o) .number ≡ 9) ↔ TooShort s o
   pub short-zeros : (s o : List ℕ) → TooShort s o → (listAnswer s (length o) ≡ listRefused 9) × (listBuffer s o ≡ o)
 
@@ -51,13 +51,13 @@ pub record Demand-1 : Type 0 where
 -- and the span words of the first; each question about a name is answered yes or no exactly as the fact holds. Names are equal only
 -- when their bytes are: two name numbers are equal exactly then.
 pub record Demand-2 : Type 0 where
-  pub accepts : EachPass (λ p. (s : List ℕ) → Admitted s → (passAnswer (p .part) s ≡ accepted) ↔ None (tree s) p)
+  pub accepts : EachPass (λ p. (s : List ℕ) → IsAdmitted s → (passAnswer (p .part) s ≡ accepted) ↔ None (tree s) p)
   pub refuses :
-      EachPass (λ p. (s : List ℕ) → Admitted s → (r : Rec) → First (tree s) p r
+      EachPass (λ p. (s : List ℕ) → IsAdmitted s → (r : Rec) → FirstOffence (tree s) p r
       → passAnswer (p .part) s ≡ refusedAt s (r .code) (r .place))
-  pub decided : EachPass (λ p. (s : List ℕ) → Admitted s → None (tree s) p ⊎ ((r : Rec) × First (tree s) p r))
-  pub yes : EachQuestion (λ q Q. (s w : List ℕ) → Admitted s → (ask q s w ≡ replied true) ↔ Q (tree s) w)
-  pub no : EachQuestion (λ q Q. (s w : List ℕ) → Admitted s → (ask q s w ≡ replied false) ↔ (Q (tree s) w → ⊥))
+  pub decided : EachPass (λ p. (s : List ℕ) → IsAdmitted s → None (tree s) p ⊎ ((r : Rec) × FirstOffence (tree s) p r))
+  pub yes : EachQuestion (λ q Q. (s w : List ℕ) → IsAdmitted s → (ask q s w ≡ replied true) ↔ Q (tree s) w)
+  pub no : EachQuestion (λ q Q. (s w : List ℕ) → IsAdmitted s → (ask q s w ≡ replied false) ↔ (Q (tree s) w → ⊥))
   pub names : EqualNumbers
 
 -- Demand 3. An admitted image has a full list (specs/All: each offence of the passes, and nothing else, in the stated order), only
@@ -65,17 +65,17 @@ pub record Demand-2 : Type 0 where
 -- words past the last record keep their values. The list has none of a pass's offences exactly when the pass accepts; else the first
 -- of them is the code and place that the pass refuses with.
 pub record Demand-3 : Type 0 where
-  pub full : (s : List ℕ) → Admitted s → (l : List Rec) × FullList (tree s) l
-  pub only : (s : List ℕ) → Admitted s → (l m : List Rec) → FullList (tree s) l → FullList (tree s) m → l ≡ m
+  pub full : (s : List ℕ) → IsAdmitted s → (l : List Rec) × FullList (tree s) l
+  pub only : (s : List ℕ) → IsAdmitted s → (l m : List Rec) → FullList (tree s) l → FullList (tree s) m → l ≡ m
   pub once :
-      (s : List ℕ) → Admitted s → (a b : List Rec) (r : Rec) → FullList (tree s) (a ++ (r ∷ b))
+      (s : List ℕ) → IsAdmitted s → (a b : List Rec) (r : Rec) → FullList (tree s) (a ++ (r ∷ b))
       → (List·Memᴰ r a → ⊥) × (List·Memᴰ r b → ⊥)
   pub lists :
-      (s o : List ℕ) → Admitted s → (l : List Rec) → FullList (tree s) l → 3 * length l ≤ length o
-      → (listAnswer s (length o) ≡ listed (length l)) × (listBuffer s o ≡ laid o 0 l)
+      (s o : List ℕ) → IsAdmitted s → (l : List Rec) → FullList (tree s) l → 3 * length l ≤ length o
+      → (listAnswer s (length o) ≡ listHas (length l)) × (listBuffer s o ≡ laid o 0 l)
   pub accepts :
-      EachPass (λ p. (s : List ℕ) → Admitted s → (l : List Rec) → FullList (tree s) l
+      EachPass (λ p. (s : List ℕ) → IsAdmitted s → (l : List Rec) → FullList (tree s) l
       → (passAnswer (p .part) s ≡ accepted) ↔ (ofPass p l ≡ []))
   pub refuses :
-      EachPass (λ p. (s : List ℕ) → Admitted s → (l : List Rec) → FullList (tree s) l
+      EachPass (λ p. (s : List ℕ) → IsAdmitted s → (l : List Rec) → FullList (tree s) l
       → (r : Rec) (m : List Rec) → ofPass p l ≡ r ∷ m → passAnswer (p .part) s ≡ refusedAt s (r .code) (r .place))

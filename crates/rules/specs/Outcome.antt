@@ -10,10 +10,10 @@ use mathlib.Core.List.{List, []}
 use borrow.Author.Tests.{lt-ltb, le-ltb, ne-eqb}
 use lib.Dec.{ltb, eqb}
 use lib.ListN.{length}
-use Rattle.image.specs.Pick.{pick, every, some as image-some, count}
-use Rattle.image.specs.Table.{familyOf, partAt, afterFrom, endsFrom, fits}
+use Rattle.image.specs.Pick.{pick, every, somewhere, count}
+use Rattle.image.specs.Table.{isOf, rows, children, fits}
 use Rattle.image.specs.Text.{classOf, wordAt, less, nameAt}
-use Rattle.image.specs.Tree.{tilesFrom, kidsFrom, childrenFit, carries, nameFits, nodeOk, endsPast, shallow, isNamed, usedIn}
+use Rattle.image.specs.Tree.{tilesFrom, kidsFrom, childrenFit, carries, nameFits, nodeOk, endsPast, shallow, carriesName, usedIn}
 use Rattle.image.specs.Admit.{layoutOk, headerRefusal, bodyRefusal, refusal}
 use Rattle.rules.specs.Sweep.{keep, some, first, run, has, same, hasWord}
 use Rattle.rules.specs.Tree.{tree}
@@ -23,7 +23,7 @@ use Rattle.rules.specs.Resolve.{rule20, group20, rule21, group21, manyAs
 use Rattle.rules.specs.Access.{rule50, group50, isUnwritten, isWrite, assignRule, callRule, statementRules, group51, access}
 use Rattle.rules.specs.Linear.{produces, isRow, placeOf, isAlias, rule60, isBurned, isEarlier, isLater, marks, isCounted, uses, judged, rowRule, linearEntry, linear}
 use Rattle.rules.specs.All.{offences}
-use Rattle.rules.specs.Answers.{Answer, passAnswer, Reply, ask, Listing, listRefused, listed, listAnswer, listBuffer}
+use Rattle.rules.specs.Answers.{Answer, passAnswer, NameReply, ask, ListReply, listRefused, listHas, listAnswer, listBuffer}
 
 -- the refusal, the answers of the three passes, and the full list (none where the image is refused)
 pub record Outcome : Type 0 where
@@ -34,7 +34,7 @@ pub record Outcome : Type 0 where
   pub list : List Rec
 
 unfoldable pub outcome : List ℕ → Outcome
-unfolding every image-some count familyOf partAt afterFrom endsFrom fits classOf wordAt less nameAt tilesFrom kidsFrom childrenFit carries nameFits nodeOk endsPast shallow isNamed usedIn layoutOk headerRefusal bodyRefusal refusal
+unfolding every somewhere count isOf rows children fits classOf wordAt less nameAt tilesFrom kidsFrom childrenFit carries nameFits nodeOk endsPast shallow carriesName usedIn layoutOk headerRefusal bodyRefusal refusal
     keep some first run has same hasWord only below someBelow firstBelow calls someCall isChild arguments someArgument named declares firstNamed down atBottom isIdent isField signers typed isState isStateTyped isDeclaredAsset inner isKnownAsset
     rule20 group20 rule21 group21 manyAssets rule22 mintCalls group22 comma typeText signature firstSigned rule23 group23 rule24 rule25 rule26 rule27 rule28 rule29 letRules entryNames group24 rule30 lastEvent unlike rule31 emits group30 rule32 deployerIn deployerOf group32 rule33 rule34 genesisRules group33 rule35 clauseRule isAddress rule40 entryRules group35 resolve
     rule50 group50 isUnwritten isWrite assignRule callRule statementRules group51 access produces isRow placeOf isAlias rule60 isBurned isEarlier isLater marks isCounted uses judged rowRule linearEntry linear offences passAnswer
@@ -54,7 +54,7 @@ pub record Answered (s : List ℕ) (v : Outcome) : Type 0 where
   pub linearity : passAnswer linear s ≡ v .linearity
   -- of an admitted image the full list, and what it answers for a buffer of so many words
   pub list : v .refused ≡ 0 → offences (tree s) ≡ v .list
-  pub room : v .refused ≡ 0 → (size : ℕ) → 3 * length (v .list) ≤ size → listAnswer s size ≡ listed (length (v .list))
+  pub room : v .refused ≡ 0 → (size : ℕ) → 3 * length (v .list) ≤ size → listAnswer s size ≡ listHas (length (v .list))
   pub short : v .refused ≡ 0 → (size : ℕ) → size < 3 * length (v .list) → listAnswer s size ≡ listRefused 9
   -- of a refused one
   pub unlisted : (v .refused ≡ 0 → ⊥) → (size : ℕ) → listAnswer s size ≡ listRefused (v .refused)
@@ -67,8 +67,8 @@ answers {s} {v} e = record {
   accessing = ap (λ (o : Outcome). o .accessing) e;
   linearity = ap (λ (o : Outcome). o .linearity) e;
   list = list;
-  room = λ z size h. lists z size ∙ ap (λ (b : Bool). pick b (listRefused 9) (listed k)) (le-ltb size (3 * k) h);
-  short = λ z size h. lists z size ∙ ap (λ (b : Bool). pick b (listRefused 9) (listed k)) (lt-ltb size (3 * k) h);
+  room = λ z size h. lists z size ∙ ap (λ (b : Bool). pick b (listRefused 9) (listHas k)) (le-ltb size (3 * k) h);
+  short = λ z size h. lists z size ∙ ap (λ (b : Bool). pick b (listRefused 9) (listHas k)) (lt-ltb size (3 * k) h);
   unlisted = λ z size. ap (λ (m : ℕ). pick (eqb m 0) (given size (offences (tree s))) (listRefused m)) n ∙ ap (λ (b : Bool). pick b (given size (offences (tree s))) (listRefused (v .refused))) (ne-eqb (v .refused) 0 z);
 }
   where
@@ -79,8 +79,8 @@ answers {s} {v} e = record {
     k = length (v .list)
 
     -- what the list l answers
-    given : ℕ → List Rec → Listing
-    given size l = pick (ltb size (3 * length l)) (listRefused 9) (listed (length l))
+    given : ℕ → List Rec → ListReply
+    given size l = pick (ltb size (3 * length l)) (listRefused 9) (listHas (length l))
 
     list : v .refused ≡ 0 → offences (tree s) ≡ v .list
     list z = ap (λ (m : ℕ). pick (eqb m 0) (offences (tree s)) []) (sym (n ∙ z)) ∙ ap (λ (o : Outcome). o .list) e
@@ -90,9 +90,9 @@ answers {s} {v} e = record {
 
 -- the answers to the three questions about a name
 pub record Replies : Type 0 where
-  pub is-state : Reply
-  pub is-declared-asset : Reply
-  pub is-known-asset : Reply
+  pub is-state : NameReply
+  pub is-declared-asset : NameReply
+  pub is-known-asset : NameReply
 
 unfoldable pub replies : List ℕ → List ℕ → Replies
 unfolding outcome ask
@@ -100,7 +100,7 @@ replies s w = record { is-state = ask isState s w; is-declared-asset = ask isDec
 
 -- the answer of the list, and its buffer afterwards
 pub record Filled : Type 0 where
-  pub answer : Listing
+  pub answer : ListReply
   pub buffer : List ℕ
 
 unfoldable pub filled : List ℕ → List ℕ → Filled

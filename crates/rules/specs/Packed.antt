@@ -1,5 +1,5 @@
 -- Contracts written as nested nodes, and the image that holds one: what the worked patterns are written with.
--- Siblings follow one another by ++, and a node holds what stands in its parentheses: entry (name "e" ++ limits (ident "x")).
+-- Siblings follow one another by ++, and a node holds what stands in its parentheses: an-entry (a-name "e" ++ a-limits (an-ident "x")).
 use Prim.Native.Nat.{ℕ, suc, _+_, _*_, _/_, _%_}
 use Prim.Native.String.{String}
 use mathlib.Core.List.{List, [], _∷_, _++_}
@@ -36,9 +36,9 @@ names [] = []
 names (p ∷ l) = let rest = names l in pick (same (p .text) []) rest (put (p .text) rest)
 
 -- the number of a name, from 1
-unfoldable pub number : List ℕ → List (List ℕ) → ℕ
-number w [] = 0
-number w (v ∷ l) = let rest = number w l in pick (same w v) 1 (suc rest)
+unfoldable pub numberIn : List ℕ → List (List ℕ) → ℕ
+numberIn w [] = 0
+numberIn w (v ∷ l) = let rest = numberIn w l in pick (same w v) 1 (suc rest)
 
 -- The bytes, little-endian
 
@@ -52,13 +52,13 @@ u32 n = u16 (n % 65536) ++ u16 (n / 65536)
 unfoldable pub nodeBytes : List (List ℕ) → ℕ → Nodes → List ℕ
 nodeBytes ns i [] = []
 nodeBytes ns i (p ∷ l) =
-    let n = pick (same (p .text) []) 0 (number (p .text) ns) in
+    let n = pick (same (p .text) []) 0 (numberIn (p .text) ns) in
     p .kind ∷ 0 ∷ (u16 n ++ u16 (i + p .size) ++ u16 0 ++ u32 (10 * i) ++ u32 (10 * i + 1) ++ nodeBytes ns (suc i) l)
 
 -- the text offsets from a on, and the text
-unfoldable pub offsets : ℕ → List (List ℕ) → List ℕ
-offsets a [] = u16 a
-offsets a (w ∷ l) = u16 a ++ offsets (a + length w) l
+unfoldable pub textOffsets : ℕ → List (List ℕ) → List ℕ
+textOffsets a [] = u16 a
+textOffsets a (w ∷ l) = u16 a ++ textOffsets (a + length w) l
 
 unfoldable pub joined : List (List ℕ) → List ℕ
 joined [] = []
@@ -70,122 +70,122 @@ header n m long =
     u16 1 ++ u16 n ++ u16 m ++ u16 0
     ++ u32 24 ++ u32 (24 + 16 * n) ++ u32 (24 + 16 * n + 2 * (m + 1)) ++ u32 (24 + 16 * n + 2 * (m + 1) + long)
 
-unfoldable pub image : Nodes → List ℕ
-unfolding same less put names number nodeBytes offsets joined header
-image l =
+unfoldable pub imageOf : Nodes → List ℕ
+unfolding same less put names numberIn nodeBytes textOffsets joined header
+imageOf l =
     let ns = names l in
-    header (length l) (length ns) (length (joined ns)) ++ nodeBytes ns 0 l ++ offsets 0 ns ++ joined ns
+    header (length l) (length ns) (length (joined ns)) ++ nodeBytes ns 0 l ++ textOffsets 0 ns ++ joined ns
 
 -- The kinds, by document 01's names
 
-abbrev pub contract : Nodes → Nodes
-contract = over 1
+abbrev pub a-contract : Nodes → Nodes
+a-contract = over 1
 
-abbrev pub asset : Nodes → Nodes
-asset = over 2
+abbrev pub an-asset : Nodes → Nodes
+an-asset = over 2
 
-abbrev pub state : Nodes → Nodes
-state = over 3
+abbrev pub a-state : Nodes → Nodes
+a-state = over 3
 
-abbrev pub field-decl : Nodes → Nodes
-field-decl = over 4
+abbrev pub a-field-decl : Nodes → Nodes
+a-field-decl = over 4
 
-abbrev pub event : Nodes → Nodes
-event = over 5
+abbrev pub an-event : Nodes → Nodes
+an-event = over 5
 
-abbrev pub event-param : Nodes
-event-param = leaf 6 []
+abbrev pub an-event-param : Nodes
+an-event-param = leaf 6 []
 
-abbrev pub genesis : Nodes → Nodes
-genesis = over 7
+abbrev pub a-genesis : Nodes → Nodes
+a-genesis = over 7
 
-abbrev pub invariant : Nodes → Nodes
-invariant = over 8
+abbrev pub an-invariant : Nodes → Nodes
+an-invariant = over 8
 
-abbrev pub entry : Nodes → Nodes
-entry = over 9
+abbrev pub an-entry : Nodes → Nodes
+an-entry = over 9
 
-abbrev pub param : Nodes → Nodes
-param = over 10
+abbrev pub a-param : Nodes → Nodes
+a-param = over 10
 
-abbrev pub type : Nodes → Nodes
-type = over 11
+abbrev pub a-type : Nodes → Nodes
+a-type = over 11
 
-abbrev pub int-lit : String → Nodes
+abbrev pub an-int-lit : String → Nodes
 unfolding bytes
-int-lit w = leaf 12 (bytes w)
+an-int-lit w = leaf 12 (bytes w)
 
-abbrev pub m-of-n : Nodes → Nodes
-m-of-n = over 13
+abbrev pub an-m-of-n : Nodes → Nodes
+an-m-of-n = over 13
 
-abbrev pub writes : Nodes → Nodes
-writes = over 14
+abbrev pub a-writes : Nodes → Nodes
+a-writes = over 14
 
-abbrev pub reads : Nodes → Nodes
-reads = over 15
+abbrev pub a-reads : Nodes → Nodes
+a-reads = over 15
 
-abbrev pub conserves : Nodes → Nodes
-conserves = over 16
+abbrev pub a-conserves : Nodes → Nodes
+a-conserves = over 16
 
-abbrev pub mints : Nodes → Nodes
-mints = over 17
+abbrev pub a-mints : Nodes → Nodes
+a-mints = over 17
 
-abbrev pub burns : Nodes → Nodes
-burns = over 18
+abbrev pub a-burns : Nodes → Nodes
+a-burns = over 18
 
-abbrev pub limits : Nodes → Nodes
-limits = over 19
+abbrev pub a-limits : Nodes → Nodes
+a-limits = over 19
 
-abbrev pub denies : Nodes → Nodes
-denies = over 20
+abbrev pub a-denies : Nodes → Nodes
+a-denies = over 20
 
-abbrev pub after : Nodes → Nodes
-after = over 21
+abbrev pub an-after : Nodes → Nodes
+an-after = over 21
 
-abbrev pub duration : Nodes
-duration = leaf 22 []
+abbrev pub a-duration : Nodes
+a-duration = leaf 22 []
 
-abbrev pub name : String → Nodes
+abbrev pub a-name : String → Nodes
 unfolding bytes
-name w = leaf 23 (bytes w)
+a-name w = leaf 23 (bytes w)
 
-abbrev pub guard : Nodes → Nodes
-guard = over 24
+abbrev pub a-guard : Nodes → Nodes
+a-guard = over 24
 
-abbrev pub «let» : Nodes → Nodes
-«let» = over 25
+abbrev pub a-let : Nodes → Nodes
+a-let = over 25
 
-abbrev pub emit : Nodes → Nodes
-emit = over 26
+abbrev pub an-emit : Nodes → Nodes
+an-emit = over 26
 
-abbrev pub assign : Nodes → Nodes
-assign = over 27
+abbrev pub an-assign : Nodes → Nodes
+an-assign = over 27
 
 -- Stmt::Expr
-abbrev pub expr : Nodes → Nodes
-expr = over 28
+abbrev pub an-expr : Nodes → Nodes
+an-expr = over 28
 
-abbrev pub int : Nodes
-int = leaf 32 []
+abbrev pub an-int : Nodes
+an-int = leaf 32 []
 
-abbrev pub ident : String → Nodes
+abbrev pub an-ident : String → Nodes
 unfolding bytes
-ident w = leaf 35 (bytes w)
+an-ident w = leaf 35 (bytes w)
 
-abbrev pub caller : Nodes
-caller = leaf 36 []
+abbrev pub a-caller : Nodes
+a-caller = leaf 36 []
 
-abbrev pub binary : Nodes → Nodes
-binary = over 41
+abbrev pub a-binary : Nodes → Nodes
+a-binary = over 41
 
-abbrev pub field : Nodes → Nodes
-field = over 42
+abbrev pub a-field : Nodes → Nodes
+a-field = over 42
 
-abbrev pub call : Nodes → Nodes
-call = over 43
+abbrev pub a-call : Nodes → Nodes
+a-call = over 43
 
-abbrev pub checked : Nodes → Nodes
-checked = over 44
+abbrev pub a-checked : Nodes → Nodes
+a-checked = over 44
 
-abbrev pub wrapping : Nodes → Nodes
-wrapping = over 45
+abbrev pub a-wrapping : Nodes → Nodes
+a-wrapping = over 45

@@ -68,20 +68,17 @@ module _ (s : List ℕ) (adm : refusal s ≡ 0) where
   pub blank : (i j : ℕ) → i < nodeCount s → j < nodeCount s → carries (tree s .kind i) ≡ 0 → carries (tree s .kind j) ≡ 0 → tree s .text i ≡ tree s .text j
   blank i j h g a b = ap (textOf (namesOf s) (textPart s)) (unnamed s (given s adm) i h a ∙ sym (unnamed s (given s adm) j g b))
 
-  -- the form of a Name, and of an IntLit of a type
+  -- the form of what a node carries: of a Name, and of an IntLit of a type
+  form-of : (k n : ℕ) → carries k ≡ n → 0 < n → (i : ℕ) → i < nodeCount s → tree s .kind i ≡ k → formOf (tree s .text i) ≡ n
+  form-of k n c l i h e = named s (given s adm) i h (λ z. let d : n ≡ 0 = sym c ∙ ap carries (sym e) ∙ z in omega arith) .2 ∙ ap carries e ∙ c
+
   pub name-form : (i : ℕ) → i < nodeCount s → tree s .kind i ≡ 23 → formOf (tree s .text i) ≡ 1
   unfolding carries
-  name-form i h k = named s (given s adm) i h (λ z. differ (ap carries (sym k) ∙ z)) .2 ∙ ap carries k
-    where
-      differ : _≡_ {A = ℕ} 1 0 → ⊥
-      differ e = omega arith
+  name-form = form-of 23 1 refl (omega arith)
 
   pub number-form : (i : ℕ) → i < nodeCount s → tree s .kind i ≡ 12 → formOf (tree s .text i) ≡ 2
   unfolding carries
-  number-form i h k = named s (given s adm) i h (λ z. differ (ap carries (sym k) ∙ z)) .2 ∙ ap carries k
-    where
-      differ : _≡_ {A = ℕ} 2 0 → ⊥
-      differ e = omega arith
+  number-form = form-of 12 2 refl (omega arith)
 
   pub blank-types : (i j : ℕ) → i < nodeCount s → j < nodeCount s → (k : ℕ) → carries k ≡ 0 → tree s .kind i ≡ k → tree s .kind j ≡ k → tree s .text i ≡ tree s .text j
   blank-types i j h g k z a b = blank i j h g (ap carries a ∙ z) (ap carries b ∙ z)

@@ -1,14 +1,18 @@
 -- What the writers read of a lent part: the text that a node carries, and the text of a type by the kind that was read.
 use Prim.Native.Nat.{ℕ, _+_, _*_, _-_, _<_, _≤_}
 use mathlib.Core.Path.{_≡_, refl, ap, _∙_, sym, subst}
+use mathlib.Core.Bool.{Bool, true, false}
 use mathlib.Core.List.{List, [], _∷_, _++_}
 use mathlib.Core.Logic.{_⊎_, ⊎-elim}
 use native.Mathlib.Omega.{arith}
 use lib.ListN.{length}
+use lib.Dec.{eqb, ltb}
+use borrow.Author.Tests.{eq-eqb, ne-eqb, eqb-true, ltb-true, ltb-false}
+use Rattle.image.specs.Pick.{both}
+use Rattle.image.proofs.Every.{both-left, both-right}
 use Rattle.image.specs.Text.{textOf, offOf}
 use Rattle.image.specs.Tree.{carries}
 use Rattle.image.specs.Admit.{nodeCount, nameCount, namesOf, textPart}
-use Rattle.image.proofs.Decide.{lt-or-ge}
 use Rattle.image.proofs.Given.{given, named}
 use Rattle.image.proofs.Tree.{named as name-lies}
 use Rattle.rules.specs.Tree.{Tree}
@@ -17,9 +21,10 @@ use Rattle.nodes.specs.Shown.{View, In, treeOf, number}
 use Rattle.nodes.proofs.Parts.{inside, past, kind-is}
 use Rattle.nodes.proofs.Shapes.{within}
 use Rattle.signature.specs.Wrote.{Room}
-use Rattle.signature.specs.Texts.{argsFrom, paramsFrom, IsType, Texts}
+use Rattle.signature.specs.Texts.{argsFrom, paramsFrom, IsType, quorumText, headText, hasArguments, Texts}
+use Rattle.signature.proofs.Nodes.{Shape, is-named, is-number, is-quorum, shape-of}
 use Rattle.signature.proofs.Laws.{room-as, room-front}
-use Rattle.signature.proofs.Types.{type-bare, type-args, named-at, quorum-at, ChildAt, child-first, child-next, argument-is, args-more, tree-nests, entry-name, param-type, AtParams, params-start, params-next, params-more, params-done, params-first, signature-is}
+use Rattle.signature.proofs.Types.{type-number, type-quorum, type-bare, type-args, named-at, quorum-at, ChildAt, child-first, child-next, argument-is, args-more, tree-nests, entry-name, param-type, AtParams, params-start, params-next, params-more, params-done, params-first, signature-is}
 
 carries-some : (k : ℕ) → (k ≡ 12) ⊎ (k ≡ 23) → carries k ≡ 0 → ⊥
 unfolding carries
@@ -57,45 +62,80 @@ module _ {part : List ℕ} {b : ℕ} {names text : List ℕ} {p : ℕ} (i : In p
 
 -- the nodes of a type
 module _ {part : List ℕ} {b y : ℕ} (W : View part b) (i : In part b y) where
+  here : {q k : ℕ} → y < q → q < treeOf W .end y → treeOf W .kind q ≡ k → In part b q × (treeOf W .kind q ≡ k)
+  here l h e = (within W i l h, e)
+
+  -- the two numbers of a MofN
   pub quorum-first : treeOf W .kind y ≡ 13 → In part b (y + 1) × (treeOf W .kind (y + 1) ≡ 12)
-  quorum-first k =
-      let q = quorum-at (W .image) (W .shown .admitted) y (below-count W i) k in
-      let e = q .0 in
-      let j = within W i {q = y + 1} (omega arith) (omega arith) in
-      (j, q .1)
+  quorum-first k = let q = quorum-at (W .image) (W .shown .admitted) y (below-count W i) k in let e = q .0 in here (omega arith) (omega arith) (q .1)
 
   pub quorum-second : treeOf W .kind y ≡ 13 → In part b (y + 2) × (treeOf W .kind (y + 2) ≡ 12)
-  quorum-second k =
-      let q = quorum-at (W .image) (W .shown .admitted) y (below-count W i) k in
-      let e = q .0 in
-      let j = within W i {q = y + 2} (omega arith) (omega arith) in
-      (j, q .3)
+  quorum-second k = let q = quorum-at (W .image) (W .shown .admitted) y (below-count W i) k in let e = q .0 in here (omega arith) (omega arith) (q .3)
 
+  -- the Name of a type, of an entry
   pub name-first : treeOf W .kind y ≡ 11 → In part b (y + 1) × (treeOf W .kind (y + 1) ≡ 23)
-  name-first k =
-      let q = named-at (W .image) (W .shown .admitted) y (below-count W i) k in
-      let e = q .0 in
-      let j = within W i {q = y + 1} (omega arith) (omega arith) in
-      (j, q .1)
+  name-first k = let q = named-at (W .image) (W .shown .admitted) y (below-count W i) k in let e = q .0 in here (omega arith) (omega arith) (q .1)
+
+  pub entry-first : treeOf W .kind y ≡ 9 → In part b (y + 1) × (treeOf W .kind (y + 1) ≡ 23)
+  entry-first k = let q = entry-name (W .image) (W .shown .admitted) y (below-count W i) k in here (omega arith) (q .0) (q .1)
 
   -- the first argument, and the next
   pub args-first : treeOf W .kind y ≡ 11 → ChildAt (treeOf W) y (y + 2) × (y + 2 ≤ treeOf W .end y)
   args-first k =
       (child-first (W .image) (W .shown .admitted) y (below-count W i) k, named-at (W .image) (W .shown .admitted) y (below-count W i) k .0)
 
-  pub entry-first : treeOf W .kind y ≡ 9 → In part b (y + 1) × (treeOf W .kind (y + 1) ≡ 23)
-  entry-first k =
-      let q = entry-name (W .image) (W .shown .admitted) y (below-count W i) k in
-      let j = within W i {q = y + 1} (omega arith) (q .0) in
-      (j, q .1)
+-- a type with arguments: its Name and, in brackets, these
+abbrev pub bracketed : ℕ → Tree → ℕ → List ℕ
+bracketed l t y = headText t y ++ ((60 ∷ []) ++ (argsFrom (l - 1) t y (y + 2) ++ (62 ∷ [])))
 
--- room for a type is room for its name
-pub room-name : {at l : ℕ} (t : Tree) (y : ℕ) → 0 < l → t .kind y ≡ 11 → Room at (typeText l t y) → Room at (t .text (y + 1))
-room-name {at} {l} t y z k r =
-    ⊎-elim
-    (λ (h : y + 2 < t .end y). room-front _ (room-as (type-args t y l z k h) r))
-    (λ (h : t .end y ≤ y + 2). room-as (type-bare t y l z k h) r)
-    (lt-or-ge (y + 2) (t .end y))
+-- what a type begins with, by its kind, and what follows it
+module _ (t : Tree) (y : ℕ) where
+  pub head-number : t .kind y ≡ 12 → headText t y ≡ t .text y
+  unfolding headText
+  head-number k = rw (eq-eqb (t .kind y) 12 k)
+
+  pub head-quorum : t .kind y ≡ 13 → headText t y ≡ quorumText t y
+  unfolding headText
+  head-quorum k = rw (ne-eqb (t .kind y) 12 (λ e. omega arith), eq-eqb (t .kind y) 13 k)
+
+  pub head-name : t .kind y ≡ 11 → headText t y ≡ t .text (y + 1)
+  unfolding headText
+  head-name k = rw (ne-eqb (t .kind y) 12 (λ e. omega arith), ne-eqb (t .kind y) 13 (λ e. omega arith))
+
+  -- whether it has arguments, from what was read
+  pub args-other : (t .kind y ≡ 11 → ⊥) → hasArguments t y ≡ false
+  unfolding hasArguments
+  args-other n = rw (ne-eqb (t .kind y) 11 n)
+
+  pub args-read : {e : ℕ} → t .kind y ≡ 11 → e ≡ t .end y → ltb (y + 2) e ≡ hasArguments t y
+  unfolding hasArguments
+  args-read k d = rw (eq-eqb (t .kind y) 11 k, d) refl
+
+  -- with arguments it is a type that has a Name
+  pub args-named : hasArguments t y ≡ true → (t .kind y ≡ 11) × (y + 2 < t .end y)
+  unfolding hasArguments
+  args-named e = (eqb-true _ _ (both-left (eqb (t .kind y) 11) _ e), ltb-true _ _ (both-right (eqb (t .kind y) 11) _ e))
+
+  module _ (l : ℕ) (z : 0 < l) where
+    pub head-only : IsType t y → hasArguments t y ≡ false → typeText l t y ≡ headText t y
+    unfolding hasArguments
+    head-only i e = go (shape-of t y i)
+      where
+        go : Shape t y → typeText l t y ≡ headText t y
+        go (is-number k) = type-number t y l z k ∙ sym (head-number k)
+        go (is-quorum k) = type-quorum t y l z k ∙ sym (head-quorum k)
+        go (is-named k) = let d : both true (ltb (y + 2) (t .end y)) ≡ false = ap (λ (b : Bool). both b (ltb (y + 2) (t .end y))) (sym (eq-eqb (t .kind y) 11 k)) ∙ e in type-bare t y l z k (ltb-false (y + 2) (t .end y) d) ∙ sym (head-name k)
+
+    pub head-args : hasArguments t y ≡ true → typeText l t y ≡ bracketed l t y
+    head-args e = let n = args-named e in type-args t y l z (n .0) (n .1) ∙ ap (λ (x : List ℕ). x ++ ((60 ∷ []) ++ (argsFrom (l - 1) t y (y + 2) ++ (62 ∷ [])))) (sym (head-name (n .0)))
+
+    -- room for a type is room for what it begins with
+    pub room-head : {at : ℕ} → IsType t y → Room at (typeText l t y) → Room at (headText t y)
+    room-head {at} i r = go (hasArguments t y) refl
+      where
+        go : (b : Bool) → hasArguments t y ≡ b → Room at (headText t y)
+        go true e = room-front _ (room-as (head-args e) r)
+        go false e = room-as (head-only i e) r
 
 -- the argument of the type y at c
 module _ {part : List ℕ} {b y : ℕ} (W : View part b) (i : In part b y) (k : treeOf W .kind y ≡ 11) {c : ℕ} (l : y + 2 ≤ c) (h : c < treeOf W .end y) where
@@ -160,8 +200,3 @@ module _ {part : List ℕ} {b e : ℕ} (W : View part b) (i : In part b e) (k : 
 -- a type that is neither 12 nor 13 is named
 pub named-so : {k x : ℕ} → k ≡ x → (11 ≤ x) × (x ≤ 13) → (k ≡ 12 → ⊥) → (k ≡ 13 → ⊥) → k ≡ 11
 named-so e r a b = let l = r .0 in let h = r .1 in omega (arith, e, a, b)
-
--- the text of a type with arguments, from what was read
-pub spelt : {part : List ℕ} {b : ℕ} {names text : List ℕ} {y levels end : ℕ} (T : Texts part b names text) → In part b y → treeOf (T .view) .kind y ≡ 11 → 0 < levels → end ≡ treeOf (T .view) .end y → y + 2 < end
-    → typeText levels (treeOf (T .view)) y ≡ treeOf (T .view) .text (y + 1) ++ ((60 ∷ []) ++ (argsFrom (levels - 1) (treeOf (T .view)) y (y + 2) ++ (62 ∷ [])))
-spelt {y = y} {levels = levels} T i k z d l = type-args (treeOf (T .view)) y levels z k (omega arith)

@@ -4,7 +4,7 @@ use native.Mathlib.Omega.{arith}
 use mathlib.Core.Path.{_≡_, refl, sym, ap, _∙_, subst}
 use native.Mathlib.Nat.{eq-or-lt-of-le}
 use mathlib.Core.Bool.{Bool, true, false, true≢false}
-use mathlib.Core.List.{List, [], _∷_}
+use mathlib.Core.List.{List, [], _∷_, List·Memᴰ, List·Memᴰ·eq-of-singleton}
 use mathlib.Core.Logic.{⊎-elim}
 use borrow.Author.Tests.{lt-ltb, le-ltb, eq-eqb, ne-eqb, eqb-true}
 use lib.Dec.{eqb}
@@ -16,7 +16,6 @@ use Rattle.rules.specs.Tree.{Tree, tree, entry}
 use Rattle.rules.specs.Vocabulary.{rec, only, firstBelow, named}
 use Rattle.rules.specs.Resolve.{signature, firstSigned, rule23}
 use Rattle.rules.proofs.Reflect.{tells-some, tells-also, tells-has, tells-named, tells-same, first-is, first-from, first-at}
-use mathlib.Core.List.{List·Memᴰ, List·Memᴰ·eq-of-singleton}
 use Rattle.records.proofs.Sweep.{has-one, has-not, keep-one, keep-none}
 use Rattle.nodes.specs.Shown.{View, In, treeOf}
 use Rattle.nodes.specs.Marks.{Marks, marking}
@@ -24,7 +23,7 @@ use Rattle.nodes.proofs.Names.{same-is, marks-as, marks-none, either-false}
 use Rattle.nodes.proofs.Parts.{past, formed}
 use Rattle.nodes.proofs.Shapes.{allIn, skips-items}
 use Rattle.nodes.proofs.Marking.{some-on}
-use Rattle.signature.specs.Alike.{signedAs, earlier, at23, noted}
+use Rattle.signature.specs.Alike.{signedAs, earlier, at23, notedEntry}
 use Rattle.signature.specs.Keys.{isNew, fallsTo, keyOf, slot, Chains, Sought, Likely}
 use Rattle.signature.proofs.Reading.{below-count}
 use Rattle.signature.proofs.Turns.{root-holds}
@@ -138,7 +137,7 @@ module _ {part : List ℕ} {b p : ℕ} (W : View part b) (i : In part b p) (k : 
   -- the names seen, with that of p
   module _ {r : List Bool} (M : Marks (W .image) (earlier (treeOf W) p) r) where
     abbrev More : List Bool → Type 0
-    More l = Marks (W .image) (noted (treeOf W) p) l
+    More l = Marks (W .image) (notedEntry (treeOf W) p) l
 
     pub seen-new : {l : List Bool} → Marks (W .image) (λ w. marking true (earlier (treeOf W) p w) (same (treeOf W .text (p + 1)) w)) l → More l
     unfolding named marking

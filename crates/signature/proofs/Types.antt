@@ -19,7 +19,7 @@ use Rattle.image.proofs.Only.{kids-hold}
 use Rattle.rules.specs.Sweep.{run, keep, has}
 use Rattle.rules.specs.Tree.{Tree, tree}
 use Rattle.rules.specs.Vocabulary.{isChild, arguments, below}
-use Rattle.rules.specs.All.{parts}
+use Rattle.rules.specs.Standing.{parts}
 use Rattle.rules.specs.Resolve.{comma, typeText, signature}
 use Rattle.rules.proofs.Reflect.{tells-has, tells-isChild}
 use Rattle.rules.proofs.Admitted.{admitted}

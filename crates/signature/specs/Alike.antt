@@ -38,7 +38,7 @@ pub record Entries (nodes : List ℕ) (g e : ℕ) : Type 0 where
   pub is-e : treeOf view .kind e ≡ 9
 
 -- an entry
-pub record IsEntry (nodes : List ℕ) (e : ℕ) : Type 0 where
+pub record EntryAt (nodes : List ℕ) (e : ℕ) : Type 0 where
   pub view : View nodes 0
   pub here : In nodes 0 e
   pub low : 0 < e
@@ -54,9 +54,9 @@ abbrev pub at23 : ℕ → Tree → List Rec
 at23 p t = keep (has (t .kind p) entry) (rule23 t) p
 
 -- the name of p, if it is an Entry, is marked too
-abbrev pub noted : Tree → ℕ → List ℕ → Bool
-noted t p w = either (earlier t p w) (also (has (t .kind p) entry) (named t w) p)
+abbrev pub notedEntry : Tree → ℕ → List ℕ → Bool
+notedEntry t p w = either (earlier t p w) (also (has (t .kind p) entry) (named t w) p)
 
 -- the answer no: no record is due at p, and its name is marked too
 abbrev pub Passes : (nodes : Lent (List ℕ)) (p : ℕ) (seen : Lent (List Bool)) → Bool → Type 0
-Passes nodes p seen r = (S : Seen (old nodes) p (old seen)) → r ≡ false → (at23 p (treeOf (S .view)) ≡ []) × Marks (S .view .image) (noted (treeOf (S .view)) p) (new seen)
+Passes nodes p seen r = (S : Seen (old nodes) p (old seen)) → r ≡ false → (at23 p (treeOf (S .view)) ≡ []) × Marks (S .view .image) (notedEntry (treeOf (S .view)) p) (new seen)

@@ -12,7 +12,7 @@ use Rattle.rules.specs.Vocabulary.{Rec}
 use Rattle.rules.specs.Resolve.{signature, firstSigned}
 use Rattle.records.specs.Words.{Lent, old, new}
 use Rattle.nodes.specs.Shown.{View, treeOf, number}
-use Rattle.signature.specs.Alike.{sameType, Entries, IsEntry}
+use Rattle.signature.specs.Alike.{sameType, Entries, EntryAt}
 
 -- a parameter of the entry x stands at p
 abbrev pub isParam : Tree → ℕ → ℕ → Bool
@@ -91,7 +91,7 @@ pub record Likely (nodes : List ℕ) (g e key : ℕ) (keys : List ℕ) : Type 0 
 
 -- an entry with its key, and the entries before it
 pub record Sought (nodes : List ℕ) (e key : ℕ) (heads links keys : List ℕ) : Type 0 where
-  pub it : IsEntry nodes e
+  pub it : EntryAt nodes e
   pub of-e : key ≡ keyOf (it .view .image) e
   pub chains : Chains (it .view .image) e heads links keys
 

@@ -1,8 +1,12 @@
 -- The texts of types and signatures (23 of document 01) piece by piece, and what their writers are lent: a part of the node area with the table of text offsets and the text of the same image.
 use Prim.Native.Nat.{ℕ, _+_, _-_, _<_, _≤_, _^_}
 use mathlib.Core.Path.{_≡_}
+use mathlib.Core.Bool.{Bool}
 use mathlib.Core.List.{List, [], _∷_, _++_}
 use mathlib.Core.Logic.{_⊎_}
+use lib.Dec.{eqb, ltb}
+use Rattle.image.specs.Maxima.{maxDepth}
+use Rattle.image.specs.Pick.{pick, both}
 use Rattle.image.specs.Admit.{namesOf, textPart}
 use Rattle.rules.specs.Sweep.{run, keep, has}
 use Rattle.rules.specs.Tree.{Tree, param}
@@ -17,7 +21,7 @@ argsFrom levels t y c = run (λ i. keep (isChild t y i) (λ a. comma (y + 2) a +
 
 -- the types of the parameters of the entry e from node p on, each after its comma
 unfoldable pub paramsFrom : Tree → ℕ → ℕ → List ℕ
-paramsFrom t e p = run (λ i. keep (has (t .kind i) param) (λ x. comma (e + 2) x ++ typeText 64 t (x + 2)) i) p (t .end e - p)
+paramsFrom t e p = run (λ i. keep (has (t .kind i) param) (λ x. comma (e + 2) x ++ typeText maxDepth t (x + 2)) i) p (t .end e - p)
 
 -- node y is a type or a type argument: 11 Type, 12 IntLit of a type, 13 MofN
 abbrev pub IsType : Tree → ℕ → Type 0
@@ -39,11 +43,24 @@ pub record Carrying (part : List ℕ) (b : ℕ) (names text : List ℕ) (p at : 
 abbrev pub quorumText : Tree → ℕ → List ℕ
 quorumText t y = t .text (y + 1) ++ ((32 ∷ 111 ∷ 102 ∷ 32 ∷ []) ++ t .text (y + 2))
 
-pub record Counting (part : List ℕ) (b : ℕ) (names text : List ℕ) (y at : ℕ) : Type 0 where
+pub record CountingRoom (part : List ℕ) (b : ℕ) (names text : List ℕ) (y at : ℕ) : Type 0 where
   pub texts : Texts part b names text
   pub there : In part b y
   pub is-quorum : treeOf (texts .view) .kind y ≡ 13
   pub room : Room at (quorumText (treeOf (texts .view)) y)
+
+-- what the type or type argument y begins with: all of an IntLit or a MofN, the Name of a type; whether arguments follow it
+unfoldable pub headText : Tree → ℕ → List ℕ
+headText t y = pick (eqb (t .kind y) 12) (t .text y) (pick (eqb (t .kind y) 13) (quorumText t y) (t .text (y + 1)))
+
+unfoldable pub hasArguments : Tree → ℕ → Bool
+hasArguments t y = both (eqb (t .kind y) 11) (ltb (y + 2) (t .end y))
+
+pub record Heading (part : List ℕ) (b : ℕ) (names text : List ℕ) (y at : ℕ) : Type 0 where
+  pub texts : Texts part b names text
+  pub there : In part b y
+  pub is-type : IsType (treeOf (texts .view)) y
+  pub room : Room at (headText (treeOf (texts .view)) y)
 
 -- the same for the text of the type y
 pub record Typing (part : List ℕ) (b : ℕ) (names text : List ℕ) (levels y at : ℕ) : Type 0 where

@@ -2,6 +2,7 @@
 // overloads.rt has code 23 itself, which writes no text: `same-text-same-nodes` in proofs/Same.antt says that comparing the texts is comparing the nodes.
 mod overloads;
 
+use nodes::TYPE;
 pub use overloads::group23;
 ghost use mathlib.Core.Path.{_≡_};
 ghost use mathlib.Core.List.{List, [], _∷_, _++_};
@@ -9,10 +10,10 @@ ghost use Prim.Native.Nat.{ℕ, _+_, _*_, _-_, _≤_};
 ghost use lib.ListN.{length};
 ghost use Rattle.image.specs.Text.{textOf, offOf};
 ghost use Rattle.rules.specs.Resolve.{comma, typeText, signature};
-ghost use Rattle.nodes.specs.Shown.{treeOf};
+ghost use Rattle.nodes.specs.Shown.{View, In, treeOf};
 ghost use Rattle.records.specs.Words.{old, new};
 ghost use Rattle.signature.specs.Wrote.{Wrote, Room};
-ghost use Rattle.signature.specs.Texts.{argsFrom, paramsFrom, quorumText, Texts, Carrying, Counting, Typing, Arguing, Listing, Signing};
+ghost use Rattle.signature.specs.Texts.{argsFrom, paramsFrom, quorumText, headText, hasArguments, Texts, Carrying, CountingRoom, Heading, Typing, Arguing, Listing, Signing};
 
 // One byte, where there is room, and the next position.
 fn put(out: &mut [u8], at: usize, b: u8) -> usize
@@ -88,12 +89,46 @@ fn put_quorum(
     out: &mut [u8],
     at: usize,
 ) -> usize
-    requires { ⌜ Counting (now nodes) base (now names) (now text) y at ⌝ }
+    requires { ⌜ CountingRoom (now nodes) base (now names) (now text) y at ⌝ }
     ensures { λ r. ⌜ ((T : Texts (old nodes) base (old names) (old text)) → Wrote (old out) at (quorumText (treeOf (T .view)) y) (new out) r) ⌝ }
 {
     let after_m = put_text(nodes, base, names, text, y + 1, out, at);
     let after_of = put_all(b" of ", out, after_m);
     put_text(nodes, base, names, text, y + 2, out, after_of)
+}
+
+// What the type or type argument at y begins with: all of an IntLit or a MofN, the Name of a type.
+fn put_head(
+    nodes: &[u8],
+    base: usize,
+    names: &[u8],
+    text: &[u8],
+    y: usize,
+    out: &mut [u8],
+    at: usize,
+) -> usize
+    requires { ⌜ Heading (now nodes) base (now names) (now text) y at ⌝ }
+    ensures { λ r. ⌜ ((T : Texts (old nodes) base (old names) (old text)) → Wrote (old out) at (headText (treeOf (T .view)) y) (new out) r) ⌝ }
+{
+    let k = nodes::kind(nodes, base, y);
+    if k == 12 {
+        return put_text(nodes, base, names, text, y, out, at);
+    }
+    if k == 13 {
+        return put_quorum(nodes, base, names, text, y, out, at);
+    }
+    put_text(nodes, base, names, text, y + 1, out, at)
+}
+
+// Whether the type or type argument at y is a type with arguments.
+fn has_arguments(nodes: &[u8], base: usize, y: usize) -> bool
+    requires { ⌜ In (now nodes) base y ⌝ }
+    ensures { λ r. ⌜ ((W : View (old nodes) base) → r ≡ hasArguments (treeOf W) y) ⌝ }
+{
+    if nodes::kind(nodes, base, y) != TYPE {
+        return false;
+    }
+    y + 2 < nodes::end(nodes, base, y)
 }
 
 // The type or type argument at y, of which so many levels are written.
@@ -113,19 +148,11 @@ fn write_type(
     if levels == 0 {
         return at;
     }
-    let k = nodes::kind(nodes, base, y);
-    if k == 12 {
-        return put_text(nodes, base, names, text, y, out, at);
+    let after_head = put_head(nodes, base, names, text, y, out, at);
+    if !has_arguments(nodes, base, y) {
+        return after_head;
     }
-    if k == 13 {
-        return put_quorum(nodes, base, names, text, y, out, at);
-    }
-    let after_name = put_text(nodes, base, names, text, y + 1, out, at);
-    let to = nodes::end(nodes, base, y);
-    if to <= y + 2 {
-        return after_name;
-    }
-    let after_open = put(out, after_name, b'<');
+    let after_open = put(out, after_head, b'<');
     let after_args = write_args(nodes, base, names, text, y, levels - 1, out, after_open);
     put(out, after_args, b'>')
 }

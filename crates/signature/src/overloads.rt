@@ -1,6 +1,7 @@
 // Code 23 of document 01: entries whose signature text an earlier entry has. No text is written: texts are equal exactly when the nodes are.
 // Where no two entries have one name there is nothing to compare. Else an entry is compared with those before it that share its key,
 // a number made of its name and its types, and only the first entry of each signature is kept to be compared with.
+use image::Image;
 use nodes::ENTRY;
 use nodes::Marks;
 use nodes::PARAM;
@@ -15,15 +16,15 @@ ghost use Rattle.rules.specs.Resolve.{signature, firstSigned, group23};
 ghost use Rattle.records.specs.Words.{old, new};
 ghost use Rattle.records.specs.Records.{Adds};
 ghost use Rattle.nodes.specs.Shown.{View, In, treeOf};
-ghost use Rattle.signature.specs.Alike.{sameNode, sameType, signedAs, Entries, IsEntry, Seen, at23, Passes};
+ghost use Rattle.signature.specs.Alike.{sameNode, sameType, signedAs, Entries, EntryAt, Seen, at23, Passes};
 ghost use Rattle.signature.specs.Keys.{mix, token, typeKey, keyOf, slot, Chained, Likely, Sought, chained, Chaining};
 
 // The entries kept: the last one of each slot, for each node the entry before it in its slot (0 is none), and its key.
 type Heads = [u16; 4096];
 
-type Links = [u16; 2048];
+type Links = [u16; Image::NODES];
 
-type Keys = [usize; 2048];
+type Keys = [usize; Image::NODES];
 
 // Whether the nodes p and q are of one kind, carry one name and are as long.
 fn same_node(nodes: &[u8], p: usize, q: usize) -> bool
@@ -140,7 +141,7 @@ fn type_key(nodes: &[u8], key: usize, y: usize) -> usize
 
 // The key of the entry e, which entries of its signature share.
 fn entry_key(nodes: &[u8], e: usize) -> usize
-    requires { ⌜ IsEntry (now nodes) e ⌝ }
+    requires { ⌜ EntryAt (now nodes) e ⌝ }
     ensures { λ r. ⌜ ((W : View (old nodes) 0) → r ≡ keyOf (W .image) e) ⌝ }
 {
     let end = nodes::end(nodes, 0, e);
@@ -265,8 +266,8 @@ fn compared(nodes: &[u8], out: &mut [u16], count: usize) -> usize
     ensures { λ r. ⌜ Adds (λ (W : View (old nodes) 0). group23 (treeOf W)) 2048 out count r ⌝ }
 {
     let mut heads = [0u16; 4096];
-    let mut links = [0u16; 2048];
-    let mut keys = [0usize; 2048];
+    let mut links = [0u16; Image::NODES];
+    let mut keys = [0usize; Image::NODES];
     entries(nodes, &mut heads, &mut links, &mut keys, out, count)
 }
 
@@ -306,7 +307,7 @@ pub fn group23(nodes: &[u8], out: &mut [u16], count: usize) -> usize
     requires { ⌜ View (now nodes) 0 × In (now nodes) 0 0 × (count < 2 ^ 40) ⌝ }
     ensures { λ r. ⌜ Adds (λ (W : View (old nodes) 0). group23 (treeOf W)) 2048 out count r ⌝ }
 {
-    let mut seen = [false; 1024];
+    let mut seen = [false; Image::NAMES];
     if !repeats(nodes, &mut seen) {
         return count;
     }

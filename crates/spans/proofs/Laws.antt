@@ -5,7 +5,7 @@ use mathlib.Core.List.{List}
 use native.Mathlib.Omega.{arith}
 use lib.ListN.{getD, List·getD-eq-default}
 use Rattle.image.specs.Text.{slice}
-use Rattle.image.specs.Node.{word}
+use Rattle.image.specs.Node.{fullWord}
 use Rattle.image.specs.Admit.{nodesOf}
 use Rattle.image.specs.declared.Image.{Image}
 use Rattle.image.proofs.Given.{given}
@@ -16,7 +16,7 @@ module _ {s : List ℕ} {head : Image} (H : Admitted s head) where
   node-area = rw (H .nodes) refl
 
   -- past the last node every word is 0
-  pub no-word : (p d : ℕ) → head .nodes ≤ p → 0 ≡ word (nodesOf s) (16 * p + d)
+  pub no-word : (p d : ℕ) → head .nodes ≤ p → 0 ≡ fullWord (nodesOf s) (16 * p + d)
   no-word p d l =
       let b = given s (H .admitted) .node-bytes in
       let n = H .nodes in

@@ -20,8 +20,8 @@ pub fn of_place(image: &[u8], head: Image, place: usize) -> Span
     if n <= place {
         return Span { from: 0, to: 0 };
     }
-    let end = 24 + 16 * n;
-    let nodes = &image[24..end];
+    let end = head.names_at();
+    let nodes = &image[Image::HEADER..end];
     let from = image::span_from(nodes, place);
     let to = image::span_to(nodes, place);
     Span { from, to }

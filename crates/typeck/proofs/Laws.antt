@@ -10,7 +10,7 @@ use lib.Dec.{eqb, leb}
 use lib.ListN.{length, length-append, getD, take, drop, length-drop, drop-of-length-le, replicate}
 use lib.Seq.{sets, sets-eq, set-out, take-all, drop-drop}
 use Rattle.image.specs.Pick.{pick, both}
-use Rattle.image.specs.Admit.{refusal, verdict, nodeCount, nameCount}
+use Rattle.image.specs.Admit.{refusal, admissionOf, nodeCount, nameCount}
 use Rattle.image.specs.declared.Image.{Image}
 use Rattle.image.specs.declared.Admission.the-variants as admission
 use Rattle.image.proofs.Every.{both-left}
@@ -35,15 +35,15 @@ use Rattle.typeck.specs.declared.Reply.the-variants as reply
 use Rattle.typeck.specs.declared.Listed.the-variants as listed
 use Rattle.typeck.specs.declared.Pass.{Pass}
 use Rattle.typeck.specs.declared.Pass.the-variants as pass
-use Rattle.typeck.specs.Face.{Stands, answerOf, verdictOf, Judged, yesNo, numbered, Replied, listingOf, listedOf, ListedAll, partAnswer, partWords, ListedPart, recordsOf, firstOf}
+use Rattle.typeck.specs.Face.{Stands, answerOf, verdictOf, Judged, yesNo, numbered, Replied, listingOf, listedOf, ListedAll, partAnswer, partWords, ListedPart, recordsOf, verdictBy}
 
 module _ (s : List ℕ) where
-  pub admitted-by : (i : Image) → verdict (refusal s) s ≡ admission.Admitted i → Admitted s i
+  pub admitted-by : (i : Image) → admissionOf (refusal s) s ≡ admission.Admitted i → Admitted s i
   admitted-by i e =
       let a = admitted-is (refusal s) s i e in
       record { admitted = a .0; nodes = ap (λ (j : Image). j .nodes) (a .1); names = ap (λ (j : Image). j .names) (a .1) }
 
-  pub refused-number : (k : ℕ) → verdict (refusal s) s ≡ admission.Refused k → k ≡ refusal s
+  pub refused-number : (k : ℕ) → admissionOf (refusal s) s ≡ admission.Refused k → k ≡ refusal s
   refused-number k e = number (eqb (refusal s) 0) e
     where
       number : (b : Bool) → pick b (admission.Admitted (record { nodes = nodeCount s; names = nameCount s })) (admission.Refused (refusal s)) ≡ admission.Refused k → k ≡ refusal s
@@ -56,12 +56,12 @@ sets-out : (ws l : List ℕ) (i : ℕ) → length l ≤ i → sets l i ws ≡ l
 sets-out [] l i h = refl
 sets-out (w ∷ ws) l i h = ap (λ (m : List ℕ). sets m (suc i) ws) (set-out l i w h) ∙ sets-out ws l (suc i) (omega arith)
 
-pub first-none : (s : List ℕ) (l : List Rec) {o : List ℕ} {k : ℕ} → Laid (replicate 3 0) 0 l o k → k ≡ 0 → answer.Accepted ≡ firstOf s l
+pub first-none : (s : List ℕ) (l : List Rec) {o : List ℕ} {k : ℕ} → Laid (replicate 3 0) 0 l o k → k ≡ 0 → answer.Accepted ≡ verdictBy s l
 first-none s [] L e = refl
 first-none s (r ∷ l) {o} {k} L e = let c : k ≡ 0 + suc (length l) = L .count in absurd (omega arith)
 
 pub first-one : (s : List ℕ) (l : List Rec) {o : List ℕ} {k p f t : ℕ} → Laid (replicate 3 0) 0 l o k → (k ≡ 0 → ⊥)
-    → p ≡ getD o 1 0 → f ≡ rules.spanFrom s p → t ≡ rules.spanTo s p → answer.Refused (getD o 0 0) (getD o 1 0) f t ≡ firstOf s l
+    → p ≡ getD o 1 0 → f ≡ rules.spanFrom s p → t ≡ rules.spanTo s p → answer.Refused (getD o 0 0) (getD o 1 0) f t ≡ verdictBy s l
 first-one s [] {k = k} L n z x y = let c : k ≡ 0 + 0 = L .count in absurd (n (omega arith))
 first-one s (r ∷ l) {o} L n z x y =
     let w : o ≡ r .code ∷ r .place ∷ r .related ∷ [] = L .words ∙ sets-out (words l) (r .code ∷ r .place ∷ r .related ∷ []) 3 (omega arith) in
@@ -73,21 +73,21 @@ case-image r n h = sym (simp (ne-eqb r 0 n, lt-ltb r 9 (omega arith)))
 case-code : (c p f t : ℕ) → 9 ≤ c → answer.Refused c p f t ≡ verdictOf (record { number = c; place = p; from = f; to = t })
 case-code c p f t h = sym (simp (ne-eqb c 0 (λ e. omega arith), le-ltb c 9 h))
 
-first-numbers : (s : List ℕ) (l : List Rec) → answerOf (firstOf s l) ≡ rules.firstOf s l
+first-numbers : (s : List ℕ) (l : List Rec) → answerOf (verdictBy s l) ≡ rules.verdict s l
 first-numbers s [] = refl
 first-numbers s (r ∷ l) = refl
 
-first-case : (s : List ℕ) (p : passes.Pass) (l : List Rec) → 9 ≤ p .least → firstOf s (passes.ofPass p l) ≡ verdictOf (rules.firstOf s (passes.ofPass p l))
+first-case : (s : List ℕ) (p : passes.PassRules) (l : List Rec) → 9 ≤ p .least → verdictBy s (passes.ofPass p l) ≡ verdictOf (rules.verdict s (passes.ofPass p l))
 unfolding passes.ofPass
 first-case s p [] h = refl
 first-case s p (r ∷ l) h = go (first-case s p l h) (both (leb (p .least) (r .code)) (leb (r .code) (p .most))) refl
   where
-    go : firstOf s (passes.ofPass p l) ≡ verdictOf (rules.firstOf s (passes.ofPass p l)) → (b : Bool) → both (leb (p .least) (r .code)) (leb (r .code) (p .most)) ≡ b
-        → firstOf s (pick b (r ∷ passes.ofPass p l) (passes.ofPass p l)) ≡ verdictOf (rules.firstOf s (pick b (r ∷ passes.ofPass p l) (passes.ofPass p l)))
+    go : verdictBy s (passes.ofPass p l) ≡ verdictOf (rules.verdict s (passes.ofPass p l)) → (b : Bool) → both (leb (p .least) (r .code)) (leb (r .code) (p .most)) ≡ b
+        → verdictBy s (pick b (r ∷ passes.ofPass p l) (passes.ofPass p l)) ≡ verdictOf (rules.verdict s (pick b (r ∷ passes.ofPass p l) (passes.ofPass p l)))
     go i true e = let g = leb-true (p .least) (r .code) (both-left _ _ e) in case-code _ _ _ _ (omega arith)
     go i false e = i
 
-pub judged-refused : (pass : Tree → List Rec) (s : List ℕ) (k : ℕ) → verdict (refusal s) s ≡ admission.Refused k → Judged pass s (answer.Image k)
+pub judged-refused : (pass : Tree → List Rec) (s : List ℕ) (k : ℕ) → admissionOf (refusal s) s ≡ admission.Refused k → Judged pass s (answer.Image k)
 judged-refused pass s k e =
     let n = refused-is (refusal s) s k e in
     let d = refused-number s k e in
@@ -96,15 +96,15 @@ judged-refused pass s k e =
       case = ap answer.Image d ∙ case-image (refusal s) n (refusal-most s) ∙ sym (ap verdictOf (pass-refused pass s n));
     }
 
-judged-by : (p : passes.Pass) (s : List ℕ) {v : Verdict} → 9 ≤ p .least → refusal s ≡ 0 → passes.Judges (tree s) p → v ≡ firstOf s (p .part (tree s)) → Judged (p .part) s v
+judged-by : (p : passes.PassRules) (s : List ℕ) {v : Verdict} → 9 ≤ p .least → refusal s ≡ 0 → passes.Judges (tree s) p → v ≡ verdictBy s (p .part (tree s)) → Judged (p .part) s v
 judged-by p s h e j f = record {
   numbers = ap answerOf f ∙ first-numbers s (p .part (tree s)) ∙ sym (pass-admitted (p .part) s e);
   case =
-      f ∙ ap (firstOf s) (sym (j .part)) ∙ first-case s p (offences (tree s)) h ∙ ap (λ (l : List Rec). verdictOf (rules.firstOf s l)) (j .part)
+      f ∙ ap (verdictBy s) (sym (j .part)) ∙ first-case s p (offences (tree s)) h ∙ ap (λ (l : List Rec). verdictOf (rules.verdict s l)) (j .part)
       ∙ sym (ap verdictOf (pass-admitted (p .part) s e));
 }
 
-pub judged-admitted : (p : Pass) (s : List ℕ) {v : Verdict} → refusal s ≡ 0 → v ≡ firstOf s (recordsOf p (tree s)) → Judged (recordsOf p) s v
+pub judged-admitted : (p : Pass) (s : List ℕ) {v : Verdict} → refusal s ≡ 0 → v ≡ verdictBy s (recordsOf p (tree s)) → Judged (recordsOf p) s v
 judged-admitted pass.Resolve s e f = judged-by passes.resolving s (omega arith) e (judges-resolve s e) f
 judged-admitted pass.Access s e f = judged-by passes.accessing s (omega arith) e (judges-access s e) f
 judged-admitted pass.Linear s e f = judged-by passes.linearity s (omega arith) e (judges-linear s e) f
@@ -112,7 +112,7 @@ judged-admitted pass.Linear s e f = judged-by passes.linearity s (omega arith) e
 -- A question
 
 module _ (question : Tree → List ℕ → Bool) (s w : List ℕ) where
-  pub replied-refused : (k : ℕ) → verdict (refusal s) s ≡ admission.Refused k → Replied question s w (reply.Image k)
+  pub replied-refused : (k : ℕ) → admissionOf (refusal s) s ≡ admission.Refused k → Replied question s w (reply.Image k)
   unfolding rules.ask
   replied-refused k e =
       let d = refused-number s k e in
@@ -132,14 +132,14 @@ module _ (question : Tree → List ℕ → Bool) (s w : List ℕ) where
 
 -- Lists
 
-stands-refused : {n : rules.Listing} (k : ℕ) → (k ≡ 0 → ⊥) → n ≡ rules.listRefused k → Stands listingOf listedOf n (listed.Refused k)
+stands-refused : {n : rules.ListReply} (k : ℕ) → (k ≡ 0 → ⊥) → n ≡ rules.listRefused k → Stands listingOf listedOf n (listed.Refused k)
 stands-refused k z e = record { numbers = sym e; case = sym (ap listedOf e ∙ simp (ne-eqb k 0 z)) }
 
-stands-records : {n : rules.Listing} (k : ℕ) → n ≡ rules.listed k → Stands listingOf listedOf n (listed.Records k)
+stands-records : {n : rules.ListReply} (k : ℕ) → n ≡ rules.listHas k → Stands listingOf listedOf n (listed.Records k)
 stands-records k e = record { numbers = sym e; case = sym (ap listedOf e) }
 
 module _ (s o : List ℕ) where
-  pub all-refused : (k : ℕ) → verdict (refusal s) s ≡ admission.Refused k → ListedAll s o (listed.Refused k) o
+  pub all-refused : (k : ℕ) → admissionOf (refusal s) s ≡ admission.Refused k → ListedAll s o (listed.Refused k) o
   all-refused k e =
       let n = refused-is (refusal s) s k e in
       let d = refused-number s k e in
@@ -152,10 +152,10 @@ module _ (s o : List ℕ) where
       → Laid o 0 (offences (tree s)) o′ k → ListedAll s o (listed.Records k) o′
   all-listed {o′} {k} e h L =
       let c : length (offences (tree s)) ≡ k = (let n = L .count in omega arith) in
-      (stands-records k (list-listed s (length o) e h ∙ ap rules.listed c), L .words ∙ sym (buffer-listed s o e h))
+      (stands-records k (list-listed s (length o) e h ∙ ap rules.listHas c), L .words ∙ sym (buffer-listed s o e h))
 
   module _ (pass : Tree → List Rec) where
-    pub part-refused : (k : ℕ) → verdict (refusal s) s ≡ admission.Refused k → ListedPart pass s o (listed.Refused k) o
+    pub part-refused : (k : ℕ) → admissionOf (refusal s) s ≡ admission.Refused k → ListedPart pass s o (listed.Refused k) o
     unfolding partAnswer partWords
     part-refused k e =
         let n = refused-is (refusal s) s k e in
@@ -168,7 +168,7 @@ module _ (s o : List ℕ) where
     part-listed {o′} {k} e L =
         let c : length (pass (tree s)) ≡ k = (let n = L .count in omega arith) in
         let f = eq-eqb (refusal s) 0 e in
-        (stands-records k (rw f (ap rules.listed c)), rw f (L .words))
+        (stands-records k (rw f (ap rules.listHas c)), rw f (L .words))
 
 -- what each pass lists is what `list_of` promises
 pub listed-by : {p q : Pass} (s : List ℕ) (most : ℕ) {o o′ : List ℕ} {k : ℕ} → p ≡ q → most ≤ 2 ^ 38

@@ -3,7 +3,7 @@
 use Prim.Native.Nat.{ℕ}
 use mathlib.Core.Path.{_≡_}
 use mathlib.Core.Bool.{Bool, true, false}
-use mathlib.Core.List.{List, [], _∷_}
+use mathlib.Core.List.{List}
 use lib.Dec.{eqb, ltb}
 use lib.ListN.{length}
 use Rattle.image.specs.Pick.{pick}
@@ -46,7 +46,7 @@ Judged pass s v = Stands answerOf verdictOf (rules.passAnswer pass s) v
 
 -- A question about a name
 
-abbrev pub numbered : Reply → rules.Reply
+abbrev pub numbered : Reply → rules.NameReply
 numbered (reply.Image r) = rules.replyRefused r
 numbered reply.Yes = rules.replied true
 numbered reply.No = rules.replied false
@@ -55,7 +55,7 @@ abbrev pub yesNo : Bool → Reply
 yesNo true = reply.Yes
 yesNo false = reply.No
 
-abbrev pub replyOf : rules.Reply → Reply
+abbrev pub replyOf : rules.NameReply → Reply
 replyOf a = pick (eqb (a .number) 0) (yesNo (a .yes)) (reply.Image (a .number))
 
 abbrev pub Replied : (Tree → List ℕ → Bool) → List ℕ → List ℕ → Reply → Type 0
@@ -68,19 +68,19 @@ oneOf false = 0
 
 -- A list, with the lent words before and after
 
-abbrev pub listingOf : Listed → rules.Listing
+abbrev pub listingOf : Listed → rules.ListReply
 listingOf (listed.Refused r) = rules.listRefused r
-listingOf (listed.Records k) = rules.listed k
+listingOf (listed.Records k) = rules.listHas k
 
-abbrev pub listedOf : rules.Listing → Listed
+abbrev pub listedOf : rules.ListReply → Listed
 listedOf a = pick (eqb (a .number) 0) (listed.Records (a .records)) (listed.Refused (a .number))
 
 abbrev pub ListedAll : List ℕ → List ℕ → Listed → List ℕ → Type 0
 ListedAll s words r words′ = Stands listingOf listedOf (rules.listAnswer s (length words)) r × (words′ ≡ rules.listBuffer s words)
 
 -- a pass's part of it: all its records are counted, those that fit are written from the buffer's start
-unfoldable pub partAnswer : (Tree → List Rec) → List ℕ → rules.Listing
-partAnswer pass s = pick (eqb (refusal s) 0) (rules.listed (rules.partCount pass s)) (rules.listRefused (refusal s))
+unfoldable pub partAnswer : (Tree → List Rec) → List ℕ → rules.ListReply
+partAnswer pass s = pick (eqb (refusal s) 0) (rules.listHas (rules.partCount pass s)) (rules.listRefused (refusal s))
 
 unfoldable pub partWords : (Tree → List Rec) → List ℕ → List ℕ → List ℕ
 partWords pass s words = pick (eqb (refusal s) 0) (rules.partBuffer pass s words) words
@@ -95,6 +95,7 @@ recordsOf pass.Resolve = resolve
 recordsOf pass.Access = access
 recordsOf pass.Linear = linear
 
-abbrev pub firstOf : List ℕ → List Rec → Verdict
-firstOf s [] = verdict.Accepted
-firstOf s (r ∷ l) = verdict.Refused (r .code) (r .place) (rules.spanFrom s (r .place)) (rules.spanTo s (r .place))
+abbrev pub verdictBy : List ℕ → List Rec → Verdict
+verdictBy s l =
+    rules.byFirst verdict.Accepted
+    (λ (r : Rec). verdict.Refused (r .code) (r .place) (rules.spanFrom s (r .place)) (rules.spanTo s (r .place))) l

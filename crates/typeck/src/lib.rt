@@ -18,7 +18,7 @@ ghost use Rattle.records.specs.Words.{old, new};
 ghost use Rattle.records.specs.Records.{Laid, Adds};
 ghost use Rattle.nodes.specs.Shown.{Admitted};
 ghost use Rattle.model.specs.Questions.{questionOf};
-ghost use Rattle.typeck.specs.Face.{Judged, Replied, ListedAll, ListedPart, recordsOf, firstOf, yesNo};
+ghost use Rattle.typeck.specs.Face.{Judged, Replied, ListedAll, ListedPart, recordsOf, verdictBy, yesNo};
 
 // What a pass answers: the image's refusal, acceptance, or the code, the place and its two span words.
 pub enum Verdict {
@@ -83,7 +83,7 @@ fn wide(w: u16) -> usize
 // The verdict, from the first record of a list that was written into three words.
 fn judge(image: &[u8], head: Image, out: &[u16], count: usize) -> Verdict
     requires { ⌜ Admitted (now image) head × (length (now out) ≡ 3) ⌝ }
-    ensures { λ r. ⌜ ((l : List Rec) → Laid (replicate 3 0) 0 l (old out) count → r ≡ firstOf (old image) l) ⌝ }
+    ensures { λ r. ⌜ ((l : List Rec) → Laid (replicate 3 0) 0 l (old out) count → r ≡ verdictBy (old image) l) ⌝ }
 {
     if count == 0 {
         return Verdict::Accepted;

@@ -1,3 +1,4 @@
+-- `invariant` meets its contract: another item has no 50; in an Invariant each node is asked.
 use native.Mathlib.Omega.{arith}
 use borrow.Author.Needs.{needs}
 use mathlib.Core.Path.{_∙_, sym, refl}

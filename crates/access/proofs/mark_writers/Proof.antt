@@ -1,3 +1,4 @@
+-- `mark_writers` meets its contract: the marks of the seven words, one after another.
 use borrow.Author.Needs.{needs}
 use Rattle.rules.specs.Words.{writers}
 use Rattle.names.proofs.Words.{marked, marks-words}

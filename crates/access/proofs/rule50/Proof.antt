@@ -1,3 +1,4 @@
+-- `rule50` meets its contract: a node of another kind is left out, and an Ident is asked for its mark.
 use borrow.Author.Needs.{needs}
 use mathlib.Core.Path.{_≡_, _∙_, sym}
 use mathlib.Core.Logic.{inr}

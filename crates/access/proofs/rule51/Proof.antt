@@ -5,12 +5,10 @@ use mathlib.Core.Path.{_≡_, refl, _∙_, sym}
 use Prim.Native.Nat.{_+_}
 use Rattle.rules.specs.Sweep.{has}
 use Rattle.rules.specs.Words.{writers}
-use Rattle.rules.specs.Vocabulary.{isField}
 use Rattle.nodes.specs.Shown.{View, In, treeOf}
 use Rattle.nodes.proofs.Shapes.{first-in, field-base}
 use Rattle.nodes.proofs.Fields.{field-kind}
 use Rattle.nodes.proofs.Fall.{not-true, not-false}
-use Rattle.access.specs.Seen.{Body}
 use Rattle.access.proofs.Laws.{other-51, assign-51, call-other, call-51}
 use Rattle.access.proofs.rule51.Statement.{statement}
 use Rattle.access.proofs.rule51.Tie as tie

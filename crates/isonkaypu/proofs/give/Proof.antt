@@ -1,9 +1,8 @@
 -- `give` meets its contract: the numbers of each case.
 use borrow.Author.Needs.{needs}
-use mathlib.Core.Path.{sym, ap}
+use mathlib.Core.Path.{sym, ap, refl}
 use Rattle.typeck.specs.Face.{answerOf}
 use Rattle.isonkaypu.proofs.Laws.{gives-as}
-use mathlib.Core.Path.{refl}
 use Rattle.isonkaypu.proofs.give.Statement.{statement}
 use Rattle.isonkaypu.proofs.give.Tie as tie
 

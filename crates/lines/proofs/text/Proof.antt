@@ -4,13 +4,13 @@ use native.Mathlib.Omega.{arith}
 use Prim.Native.Nat.{_≤_, _-_}
 use lib.ListN.{length, take}
 use lib.Seq.{take-all, length-take-le}
-use Rattle.lines.specs.Line.{Wrote}
+use Rattle.lines.specs.Line.{Printed}
 use Rattle.lines.proofs.Laws.{wrote-none, wrote-join, wrote-as, wrote-long, take-next}
 use Rattle.lines.proofs.text.Statement.{statement}
 use Rattle.lines.proofs.text.Tie as tie
 
 abbrev Inv-loop : tie.InvT-loop
-Inv-loop t out₀ at n i₀ k₀ out i k = (i ≤ length t) × Wrote out₀ at (take i t) out k
+Inv-loop t out₀ at n i₀ k₀ out i k = (i ≤ length t) × Printed out₀ at (take i t) out k
 
 abbrev μ-loop : tie.MeasureT-loop
 μ-loop t out₀ at n i₀ k₀ out i k = length t - i

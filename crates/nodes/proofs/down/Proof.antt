@@ -1,3 +1,4 @@
+-- `down` meets its contract: the walk stops at the first node that is not taken off, or at the end.
 use native.Mathlib.Omega.{arith}
 use borrow.Author.Needs.{needs}
 use mathlib.Core.Path.{_≡_, _∙_, sym, ap}

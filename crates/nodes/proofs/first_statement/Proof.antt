@@ -1,3 +1,4 @@
+-- `first_statement` meets its contract: no child before the one at hand is a statement.
 use native.Mathlib.Omega.{arith}
 use borrow.Author.Needs.{needs}
 use mathlib.Core.Path.{_≡_, _∙_, sym, ap}

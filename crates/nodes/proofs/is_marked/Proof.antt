@@ -1,3 +1,4 @@
+-- `is_marked` meets its contract: the mark by the number of the node's word.
 use native.Mathlib.Omega.{arith}
 use borrow.Author.Needs.{needs}
 use mathlib.Core.Path.{_∙_, ap}

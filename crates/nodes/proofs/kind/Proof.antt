@@ -1,3 +1,4 @@
+-- `kind` meets its contract: the byte that the part holds for the node is the tree's.
 use borrow.Author.Needs.{needs}
 use mathlib.Core.Path.{_∙_}
 use Rattle.nodes.proofs.Parts.{kind-is}

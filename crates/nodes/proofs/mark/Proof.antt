@@ -1,3 +1,4 @@
+-- `mark` meets its contract: the mark by the number of the node's word is set, or taken off.
 use native.Mathlib.Omega.{arith}
 use borrow.Author.Needs.{needs}
 use Rattle.nodes.proofs.Turns.{numbered, marks-name, carries-in}

@@ -1,3 +1,4 @@
+-- `name` meets its contract: the number that the part holds for the node is the image's.
 use borrow.Author.Needs.{needs}
 use mathlib.Core.Path.{_∙_}
 use Rattle.nodes.proofs.Parts.{number-is}

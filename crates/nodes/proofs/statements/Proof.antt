@@ -1,3 +1,4 @@
+-- `statements` meets its contract: the bytes from the first statement on show the statements.
 use native.Mathlib.Omega.{arith}
 use borrow.Author.Needs.{needs}
 use mathlib.Core.Path.{refl}

@@ -4,10 +4,6 @@ use native.Mathlib.Omega.{arith}
 use Prim.Native.Nat.{_-_}
 use mathlib.Core.Path.{refl}
 use mathlib.Core.List.{[], _∷_}
-use native.Mathlib.Omega.{arith}
-use mathlib.Core.Path.{refl}
-use mathlib.Core.List.{[], _∷_}
-use Prim.Native.Nat.{_-_}
 use Rattle.rules.specs.Tree.{declarations}
 use Rattle.nodes.specs.Shown.{View, In}
 use Rattle.nodes.proofs.Shapes.{one-in}

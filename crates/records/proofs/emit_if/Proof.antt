@@ -1,3 +1,4 @@
+-- `emit_if` meets its contract: one record, or none.
 use borrow.Author.Needs.{needs}
 use Rattle.records.proofs.Laws.{added-one, added-none}
 use Rattle.records.proofs.emit_if.Statement.{statement}

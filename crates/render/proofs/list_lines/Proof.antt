@@ -7,7 +7,7 @@ use lib.ListN.{replicate, length-replicate}
 use Rattle.rules.specs.Spelling.{bytes}
 use Rattle.typeck.specs.Face.{listingOf}
 use Rattle.lines.proofs.Laws.{wrote-join, wrote-as}
-use Rattle.render.proofs.Laws.{lines-refused, lines-listed, records-fit}
+use Rattle.render.proofs.Laws.{line-few, lines-refused, lines-listed, records-fit}
 use Rattle.render.proofs.list_lines.Statement.{statement}
 use Rattle.render.proofs.list_lines.Tie as tie
 
@@ -33,12 +33,9 @@ record-lines-requires c κs =
 returns : tie.Need-returns
 unfolding bytes
 returns c =
-    let w = c .before .before .before .before .before .before .text .ensures in
-    let r = c .before .before .rest-one .ensures in
-    let n = w .count in
-    let b = r .1 in
-    let is = lines-refused (c .before .before .before .before .before .before .before .before .before .before .before .before .before .before .before .before .before .args .image .now) (replicate 32768 0) _ _ 32768 (length-replicate {A = ℕ} 32768 0) (c .before .before .before .before .before .before .before .before .before .before .r .given .1) (c .before .before .before .before .before .before .before .before .before .before .before .before .before .list .ensures .0) in
-    (wrote-as is (wrote-join w (r .0)), omega arith)
+    line-few 437000 (omega arith)
+    (lines-refused (c .before .before .before .before .before .before .before .before .before .before .before .before .before .before .before .before .before .args .image .now) (replicate 32768 0) _ _ 32768 (length-replicate {A = ℕ} 32768 0) (c .before .before .before .before .before .before .before .before .before .before .r .given .1) (c .before .before .before .before .before .before .before .before .before .before .before .before .before .list .ensures .0))
+    (c .before .before .before .before .before .before .text .ensures) (c .before .before .rest-one .ensures)
 
 returns-2 : tie.Need-returns-2
 unfolding bytes

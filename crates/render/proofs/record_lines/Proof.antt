@@ -5,7 +5,7 @@ use Prim.Native.Nat.{_+_, _*_, _-_, _≤_}
 use mathlib.Core.Path.{_≡_, sym, ap}
 use Rattle.rules.specs.Sweep.{run}
 use Rattle.records.proofs.Sweep.{run-none}
-use Rattle.lines.specs.Line.{Wrote}
+use Rattle.lines.specs.Line.{Printed}
 use Rattle.lines.proofs.Laws.{wrote-none, wrote-join, wrote-as, wrote-long}
 use Rattle.render.specs.Report.{lineAt}
 use Rattle.render.proofs.Laws.{lines-next}
@@ -13,7 +13,7 @@ use Rattle.render.proofs.record_lines.Statement.{statement}
 use Rattle.render.proofs.record_lines.Tie as tie
 
 abbrev Inv-loop : tie.InvT-loop
-Inv-loop image head words count out₀ at i₀ k₀ out i k = (i ≤ count) × (k ≤ at + 40 * i) × Wrote out₀ at (run (lineAt image words) 0 i) out k
+Inv-loop image head words count out₀ at i₀ k₀ out i k = (i ≤ count) × (k ≤ at + 40 * i) × Printed out₀ at (run (lineAt image words) 0 i) out k
 
 abbrev μ-loop : tie.MeasureT-loop
 μ-loop image head words count out₀ at i₀ k₀ out i k = count - i

@@ -5,7 +5,7 @@ use mathlib.Core.Path.{sym, _∙_}
 use Rattle.rules.specs.Spelling.{bytes}
 use Rattle.typeck.proofs.Laws.{admitted-by}
 use Rattle.lines.proofs.Laws.{wrote-join, wrote-as}
-use Rattle.render.proofs.Laws.{report-refused, report-admitted}
+use Rattle.render.proofs.Laws.{line-few, report-refused, report-admitted}
 use Rattle.render.proofs.render.Statement.{statement}
 use Rattle.render.proofs.render.Tie as tie
 
@@ -30,12 +30,7 @@ list-lines-requires c κs =
 
 returns : tie.Need-returns
 unfolding bytes
-returns c =
-    let w = c .before .before .before .before .before .before .text .ensures in
-    let r = c .before .before .rest-one .ensures in
-    let n = w .count in
-    let b = r .1 in
-    (wrote-as (report-refused (c .before .before .before .before .before .before .before .before .before .before .before .before .before .before .before .args .image .now) _ (sym (c .before .before .before .before .before .before .before .before .before .before .before .before .admit .ensures) ∙ c .before .before .before .before .before .before .before .before .before .before .r .given .1)) (wrote-join w (r .0)), omega arith)
+returns c = line-few 450000 (omega arith) (report-refused (c .before .before .before .before .before .before .before .before .before .before .before .before .before .before .before .args .image .now) _ (sym (c .before .before .before .before .before .before .before .before .before .before .before .before .admit .ensures) ∙ c .before .before .before .before .before .before .before .before .before .before .r .given .1)) (c .before .before .before .before .before .before .text .ensures) (c .before .before .rest-one .ensures)
 
 returns-2 : tie.Need-returns-2
 unfolding bytes

@@ -6,12 +6,12 @@ use mathlib.Core.List.{List}
 use native.Mathlib.Omega.{arith}
 use lib.ListN.{length, replicate, length-replicate}
 use lib.Seq.{length-take-le}
-use Rattle.lines.specs.Line.{Wrote}
+use Rattle.lines.specs.Line.{Printed}
 use Rattle.lines.proofs.Laws.{wrote-long}
 use Rattle.report.proofs.report.Statement.{statement}
 use Rattle.report.proofs.report.Tie as tie
 
-fits : (n : ℕ) {t o : List ℕ} {r : ℕ} → Wrote (replicate n 0) 0 t o r → r ≤ n → r ≤ length o
+fits : (n : ℕ) {t o : List ℕ} {r : ℕ} → Printed (replicate n 0) 0 t o r → r ≤ n → r ≤ length o
 fits n {t} {o} {r} w h = let l : length o ≡ n = wrote-long w ∙ length-replicate {A = ℕ} n 0 in omega arith
 
 array-share-prefix-text : tie.Need-array-share-prefix-text

@@ -6,12 +6,12 @@ use Rattle.records.proofs.Laws.{asked}
 use Rattle.records.proofs.Sweep.{Sweeping, sweep-again, sweep-long}
 use Rattle.nodes.specs.Shown.{treeOf}
 use Rattle.nodes.proofs.Spans.{Span, span-whole, upto-is, whole-starts, whole-swept}
-use Rattle.resolve_calls.specs.Called.{Known, at34}
+use Rattle.resolve_calls.specs.Called.{CallWords, at34}
 use Rattle.resolve_calls.proofs.calls34.Statement.{statement}
 use Rattle.resolve_calls.proofs.calls34.Tie as tie
 
 abbrev Inv-loop : tie.InvT-loop
-Inv-loop nodes base builtin method out₀ count end total₀ p₀ out total p = Span nodes base base end × Sweeping (λ (T : Known nodes base builtin method) i. at34 i (treeOf (T .view))) base end 1 out₀ count out total p
+Inv-loop nodes base builtin method out₀ count end total₀ p₀ out total p = Span nodes base base end × Sweeping (λ (T : CallWords nodes base builtin method) i. at34 i (treeOf (T .view))) base end 1 out₀ count out total p
 
 abbrev μ-loop : tie.MeasureT-loop
 μ-loop nodes base builtin method out₀ count end total₀ p₀ out total p = end - p

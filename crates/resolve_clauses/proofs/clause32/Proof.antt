@@ -1,3 +1,4 @@
+-- `clause32` meets its contract: a clause of another kind is left out.
 use borrow.Author.Needs.{needs}
 use mathlib.Core.Logic.{inr}
 use mathlib.Core.Path.{refl, sym}

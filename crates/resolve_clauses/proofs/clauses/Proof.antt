@@ -1,47 +1,33 @@
--- `clauses` meets its contract: a walk from child to child.
-use Rattle.rules.specs.Tree.{naming}
-use Prim.Native.Nat.{_+_, _-_, _<_, _≤_}
+-- `clauses` meets its contract: a walk from child to child of the entry.
 use borrow.Author.Needs.{needs}
-use mathlib.Core.Path.{refl}
 use native.Mathlib.Omega.{arith}
-use Rattle.records.proofs.Sweep.{Sweeping, keep-none, run-below, sweep-long, sweep-on, sweep-starts, swept}
-use Rattle.nodes.proofs.Shapes.{allIn, skips-parts}
-use Rattle.nodes.proofs.Spans.{Span, child-on, span-below}
-use Rattle.nodes.specs.Shown.{treeOf}
-use Rattle.resolve_clauses.specs.Said.{Assets, clause36, clauseRules}
-use Rattle.rules.specs.Packed.{state}
+use Prim.Native.Nat.{_+_, _-_}
+use mathlib.Core.Path.{refl}
 use Rattle.rules.specs.Sweep.{has}
+use Rattle.records.proofs.Sweep.{sweep-long}
+use Rattle.nodes.specs.Shown.{treeOf}
+use Rattle.nodes.proofs.Shapes.{allIn}
+use Rattle.nodes.proofs.Steps.{Walk, parts-on, below-starts, below-moves, below-done}
+use Rattle.rules.specs.Tree.{naming}
+use Rattle.resolve_clauses.specs.Said.{AssetMarks, clauseRules}
 use Rattle.resolve_clauses.proofs.clauses.Statement.{statement}
 use Rattle.resolve_clauses.proofs.clauses.Tie as tie
 
 abbrev Inv-loop : tie.InvT-loop
-Inv-loop nodes entry state declared known out₀ count end total₀ p₀ out total p =
-    Span nodes 0 (entry + 1) end × Sweeping (λ (T : Assets nodes state declared known) i. clause36 (treeOf (T .view)) i) (entry + 1) end 2048 out₀ count out total p
+Inv-loop nodes entry state declared known out₀ count end total₀ p₀ out total p = Walk (λ (T : AssetMarks nodes state declared known). T .view) naming (λ T. clauseRules (treeOf (T .view))) (entry + 1) end 2048 out₀ count out total p
 
 abbrev μ-loop : tie.MeasureT-loop
 μ-loop nodes entry state declared known out₀ count end total₀ p₀ out total p = end - p
 
-loop-holds : tie.Need-loop-holds Inv-loop μ-loop
-loop-holds c = let W = c .before .before .before .pre .0 .view in let S = span-below W (c .before .before .before .pre .1) (c .end .ensures W) in (S, sweep-starts (S .order))
-
--- the next child
-passed : (c : tie.After-end2 Inv-loop μ-loop) → c .before .before .before .before .before .before .before .before .before .before .args .entry < c .before .before .before .before .before .before .loop .p
-passed c = let l = c .before .before .before .before .before .before .loop .inv .1 .low in omega arith
-
-moved : (c : tie.After-end2 Inv-loop μ-loop) → (c .before .before .before .before .before .before .loop .p < c .end2 .result) × (c .end2 .result ≤ c .before .before .before .before .before .before .before .end .result)
-moved c = let W = c .before .before .before .before .before .before .before .before .before .before .pre .0 .view in child-on W (c .before .before .before .before .before .before .before .before .before .before .pre .1) (c .before .before .before .before .before .before .before .end .ensures W) (passed c) (c .before .before .before .before .before .loop-test .taken) (c .end2 .ensures W)
+loop-less : tie.Need-loop-less Inv-loop μ-loop
+loop-less c = let P = c .before .before .before .before .before .before .before .before .before .before .pre in let m = below-moves (c .before .before .before .before .before .before .before .before .before .before .args .entry) (P .0) (P .1) (c .before .before .before .before .before .before .before .end .ensures) (c .before .before .before .before .before .before .loop .inv) (c .before .before .before .before .before .loop-test .taken) (c .end2 .ensures) in omega arith
 
 loop-again : tie.Need-loop-again Inv-loop μ-loop
 unfolding allIn has
-loop-again c = let i = c .before .before .before .before .before .before .loop .inv in (
-  i .0,
-  sweep-on (i .1) (c .before .before .before .clause .ensures) (moved c .0) (moved c .1)
-      (λ T j a d. keep-none _ j (skips-parts naming refl (T .view) (c .before .before .before .before .before .before .before .before .before .before .pre .1) (c .before .before .before .before .before .before .before .before .before .before .pre .2) (passed c) (let e = c .before .before .before .before .before .before .before .end .ensures (T .view) in let h = c .before .before .before .before .before .loop-test .taken in omega arith) (c .end2 .ensures (T .view)) j a d)),
-)
+loop-again c = let P = c .before .before .before .before .before .before .before .before .before .before .pre in parts-on (c .before .before .before .before .before .before .before .before .before .before .args .entry) refl (P .0) (P .1) (P .2) (c .before .before .before .before .before .before .before .end .ensures) (c .before .before .before .before .before .before .loop .inv) (c .before .before .before .before .before .loop-test .taken) (c .end2 .ensures) (c .before .before .before .clause .ensures)
 
 returns : tie.Need-returns Inv-loop μ-loop
-returns c = let i = c .before .loop .inv in
-    swept (i .1) (c .loop-test .left) (λ T. run-below (treeOf (T .view)) naming (clauseRules (treeOf (T .view))) _ _ _ refl (c .before .before .end .ensures (T .view))) (let u = i .0 .under in omega arith)
+returns c = below-done (c .before .before .before .before .before .args .entry) (c .before .loop .inv) (c .loop-test .left) (c .before .before .end .ensures)
 
 pub clauses-spec : {M : Type 1} → statement M
-clauses-spec = tie.close (tie.spec Inv-loop μ-loop (λ c κs. search needs) (λ c. search needs) loop-holds (λ c κs. search needs) (λ c κs. search needs) (λ c. let m = moved c in omega arith) loop-again (λ c. sweep-long (c .before .loop .inv .1) (c .before .before .before .before .before .pre .0)) returns)
+clauses-spec = tie.close (tie.spec Inv-loop μ-loop (λ c κs. search needs) (λ c. search needs) (λ c. below-starts (c .before .before .before .args .entry) (c .before .before .before .pre .0) (c .before .before .before .pre .1) (c .end .ensures)) (λ c κs. search needs) (λ c κs. search needs) loop-less loop-again (λ c. sweep-long (c .before .loop .inv .sweep) (c .before .before .before .before .before .pre .0)) returns)

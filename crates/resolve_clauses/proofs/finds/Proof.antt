@@ -1,3 +1,4 @@
+-- `finds` meets its contract: a node of another kind is left out.
 use borrow.Author.Needs.{needs}
 use mathlib.Core.Path.{_∙_, _≡_, sym}
 use Rattle.nodes.specs.Shown.{View, treeOf}

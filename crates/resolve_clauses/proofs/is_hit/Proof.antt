@@ -1,3 +1,4 @@
+-- `is_hit` meets its contract: the word's mark, or that it has none.
 use borrow.Author.Needs.{needs}
 use Rattle.nodes.specs.Shown.{treeOf}
 use Rattle.resolve_clauses.proofs.Hits.{word-hit}

@@ -1,3 +1,4 @@
+-- `within` meets its contract: the nodes below a node, as one range.
 use borrow.Author.Needs.{needs}
 use mathlib.Core.List.{[], _∷_}
 use mathlib.Core.Path.{refl}

@@ -7,13 +7,13 @@ use Rattle.records.proofs.Laws.{asked}
 use Rattle.records.proofs.Sweep.{Sweeping, sweep-again, sweep-long, sweep-starts, swept}
 use Rattle.nodes.proofs.Spans.{Span}
 use Rattle.nodes.specs.Shown.{treeOf}
-use Rattle.resolve_clauses.specs.Said.{Table, atNode}
+use Rattle.resolve_clauses.specs.Said.{OneTable, atNode}
 use Rattle.resolve_clauses.proofs.words.Statement.{statement}
 use Rattle.resolve_clauses.proofs.words.Tie as tie
 
 abbrev Inv-loop : tie.InvT-loop
 Inv-loop rule nodes base from end marks out₀ count total₀ p₀ out total p =
-    Span nodes base from end × Sweeping (λ (T : Table nodes base marks) i. atNode rule (T .says) (treeOf (T .view)) i) from end 1 out₀ count out total p
+    Span nodes base from end × Sweeping (λ (T : OneTable nodes base marks) i. atNode rule (T .says) (treeOf (T .view)) i) from end 1 out₀ count out total p
 
 abbrev μ-loop : tie.MeasureT-loop
 μ-loop rule nodes base from end marks out₀ count total₀ p₀ out total p = end - p

@@ -12,14 +12,14 @@ use Rattle.nodes.specs.Shown.{treeOf}
 use Rattle.nodes.specs.State.{State}
 use Rattle.nodes.proofs.Shapes.{allIn, skips-items}
 use Rattle.nodes.proofs.Steps.{Walk, walk-on, below-starts, below-moves, below-done}
-use Rattle.resolve_names.specs.Seen.{Clean}
+use Rattle.resolve_names.specs.Seen.{NoneNoted}
 use Rattle.resolve_names.proofs.Lent.{fresh, cleaned}
 use Rattle.resolve_names.proofs.group24.Statement.{statement}
 use Rattle.resolve_names.proofs.group24.Tie as tie
 
 abbrev Inv-loop : tie.InvT-loop
 Inv-loop nodes state out₀ count params₀ lets₀ end total₀ p₀ out params lets total p =
-    Walk (λ (T : State nodes 0 state). T .view) entry (λ T. entryNames (treeOf (T .view))) 1 end (2053 * 2048) out₀ count out total p × ((T : State nodes 0 state) → Clean T params lets)
+    Walk (λ (T : State nodes 0 state). T .view) entry (λ T. entryNames (treeOf (T .view))) 1 end (2053 * 2048) out₀ count out total p × ((T : State nodes 0 state) → NoneNoted T params lets)
 
 abbrev μ-loop : tie.MeasureT-loop
 μ-loop nodes state out₀ count params₀ lets₀ end total₀ p₀ out params lets total p = end - p

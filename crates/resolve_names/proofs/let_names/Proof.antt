@@ -2,7 +2,6 @@
 use borrow.Author.Needs.{needs}
 use native.Mathlib.Omega.{arith}
 use mathlib.Core.Path.{refl}
-use mathlib.Core.Logic.{inr}
 use Rattle.rules.specs.Sweep.{has}
 use Rattle.rules.specs.Tree.{«let»}
 use Rattle.records.proofs.Laws.{asked, asked-at, added-by, added-as, added-join}

@@ -4,7 +4,6 @@ use native.Mathlib.Omega.{arith}
 use Prim.Native.Nat.{_+_, _-_, _<_, _≤_}
 use mathlib.Core.Path.{refl}
 use mathlib.Core.List.{_++_}
-use mathlib.Core.Logic.{inl}
 use Rattle.rules.specs.Sweep.{has}
 use Rattle.rules.specs.Tree.{param}
 use Rattle.rules.specs.Resolve.{rule24, rule25}

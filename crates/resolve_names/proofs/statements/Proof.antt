@@ -11,13 +11,13 @@ use Rattle.nodes.specs.Shown.{In, treeOf}
 use Rattle.nodes.proofs.Shapes.{allIn}
 use Rattle.nodes.proofs.Spans.{span-whole, upto-is}
 use Rattle.nodes.proofs.Steps.{Stepping, steps-start, step-at, steps-on, steps-done}
-use Rattle.resolve_names.specs.Seen.{Body, statementNames}
+use Rattle.resolve_names.specs.Seen.{NamingBody, statementNames}
 use Rattle.resolve_names.proofs.statements.Statement.{statement}
 use Rattle.resolve_names.proofs.statements.Tie as tie
 
 abbrev Inv-loop : tie.InvT-loop
 Inv-loop nodes base state params lets out₀ count end total₀ s₀ out total s =
-    Stepping (λ (T : Body nodes base state params lets). T .scope .body) statements (λ T. statementNames (treeOf (T .scope .body .view)) (T .scope .body .item)) 2051 out₀ count out total s
+    Stepping (λ (T : NamingBody nodes base state params lets). T .scope .body) statements (λ T. statementNames (treeOf (T .scope .body .view)) (T .scope .body .item)) 2051 out₀ count out total s
 
 abbrev μ-loop : tie.MeasureT-loop
 μ-loop nodes base state params lets out₀ count end total₀ s₀ out total s = end - s

@@ -25,9 +25,6 @@ abbrev μ-loop : tie.MeasureT-loop
 is-entry : (c : tie.Start Inv-loop μ-loop) (W : View (c .args .nodes .now) (c .args .base)) → treeOf W .kind (c .args .e) ≡ 9
 is-entry c W = kinds-agree W (c .pre .texts .view) (c .pre .there) ∙ c .pre .is-entry
 
-add-p : tie.Need-add-p Inv-loop μ-loop
-add-p c = let h = c .before .before .before .before .before .pre .there .2 in omega arith
-
 loop-holds : tie.Need-loop-holds Inv-loop μ-loop
 loop-holds c = let P = c .before .before .before .before .before .pre in
     let f = params-from (P .texts .view) (P .there) (P .is-entry) .1 in
@@ -40,17 +37,8 @@ before-end c W = let d = c .before .before .end .ensures W in let g = c .loop-te
 place : (c : tie.In-loop Inv-loop μ-loop) → In (c .before .before .before .before .before .before .before .args .nodes .now) (c .before .before .before .before .before .before .before .args .base) (c .before .loop .p)
 place c = let P = c .before .before .before .before .before .before .before .pre in param-in (P .texts .view) (P .there) (c .before .loop .inv .0) (before-end c (P .texts .view))
 
-kind-requires : tie.Need-kind-requires Inv-loop μ-loop
-kind-requires c κs = place c
-
-same-length : tie.Need-same-length Inv-loop μ-loop
-same-length c = goes-length (c .before .before .before .loop .inv .3 (c .before .before .before .before .before .before .before .before .before .pre .texts))
-
 returns : tie.Need-returns Inv-loop μ-loop
 returns c = λ T. goes-end (goes-trans (c .before .before .before .loop .inv .3 T) (goes-as (params-none (T .view) (c .before .before .before .before .before .before .before .before .before .pre .there) (is-entry (c .before .before .before .before .before .before .before .before .before) (T .view)) (c .before .before .before .loop .p) (c .before .before .before .loop .inv .2 (T .view)) (λ h k. c .if1 .taken (c .before .kind .ensures (T .view) ∙ k)))))
-
-add-put-comma : tie.Need-add-put-comma Inv-loop μ-loop
-add-put-comma c = let h = c .before .before .before .before .before .before .before .before .before .pre .there .2 in omega arith
 
 is-param : (c : tie.Else1 Inv-loop μ-loop) (W : View (c .before .before .before .before .before .before .before .before .before .args .nodes .now) (c .before .before .before .before .before .before .before .before .before .args .base)) → treeOf W .kind (c .before .before .before .loop .p) ≡ 10
 is-param c W = sym (c .before .kind .ensures W) ∙ c .if1 .left
@@ -66,9 +54,6 @@ put-comma-requires c κs = let P = c .before .before .before .before .before .be
     let l = c .before .before .before .before .loop in
     room-comma (l .inv .3 (P .texts)) (comma (a .e + 2) (l .p)) (typeText 64 (treeOf W) (l .p + 2)) (paramsFrom (treeOf W) (a .e) (treeOf W .end (l .p))) (more (c .before) W _ refl) (P .room)
 
-add-write-type : tie.Need-add-write-type Inv-loop μ-loop
-add-write-type c = let h = place (c .before .before .before .before .before .before) .2 in omega arith
-
 write-type-requires : tie.Need-write-type-requires Inv-loop μ-loop
 write-type-requires c κs = let P = c .before .before .before .before .before .before .before .before .before .before .before .before .before .before .pre in
     let W = P .texts .view in
@@ -81,9 +66,6 @@ write-type-requires c κs = let P = c .before .before .before .before .before .b
       is-type = t .1;
       room = room-item (l .inv .3 (P .texts)) (comma (a .e + 2) (l .p)) (typeText 64 (treeOf W) (l .p + 2)) (paramsFrom (treeOf W) (a .e) (treeOf W .end (l .p))) (more (c .before .before .before .before .before) W _ refl) (P .room) (c .before .before .before .put-comma .ensures);
     }
-
-end-requires-2 : tie.Need-end-requires-2 Inv-loop μ-loop
-end-requires-2 c κs = place (c .before .before .before .before .before .before .before .before .before .before)
 
 moved : (c : tie.After-end2 Inv-loop μ-loop) (W : View (c .before .before .before .before .before .before .before .before .before .before .before .before .before .before .before .before .before .before .args .nodes .now) (c .before .before .before .before .before .before .before .before .before .before .before .before .before .before .before .before .before .before .args .base))
     → (c .before .before .before .before .before .before .before .before .before .before .before .before .loop .p + 2 < c .end2 .result)
@@ -107,9 +89,6 @@ loop-again c = let W = c .before .before .before .before .before .before .before
       λ T. goes-on (l .inv .3 T) _ _ _ (more (c .before .before .before .before .before .before .before .before .before) (T .view) _ (c .end2 .ensures (T .view))) (c .before .before .before .before .before .before .before .put-comma .ensures) (c .before .before .before .write-type .ensures T),
     )
 
-same-length-2 : tie.Need-same-length-2 Inv-loop μ-loop
-same-length-2 c = goes-length (c .before .loop .inv .3 (c .before .before .before .before .before .before .before .pre .texts))
-
 returns-2 : tie.Need-returns-2 Inv-loop μ-loop
 returns-2 c = λ T.
     let d = c .before .before .end .ensures (T .view) in
@@ -117,4 +96,9 @@ returns-2 c = λ T.
     goes-end (goes-trans (c .before .loop .inv .3 T) (goes-as (params-none (T .view) (c .before .before .before .before .before .before .before .pre .there) (is-entry (c .before .before .before .before .before .before .before) (T .view)) (c .before .loop .p) (c .before .loop .inv .2 (T .view)) (λ h k. absurd (omega arith)))))
 
 pub write-params-spec : {M : Type 1} → statement M
-write-params-spec = tie.close (tie.spec Inv-loop μ-loop (λ c κs. c .before .before .before .before .pre .there) add-p loop-holds kind-requires same-length returns add-put-comma put-comma-requires add-write-type write-type-requires end-requires-2 loop-less loop-again same-length-2 returns-2)
+write-params-spec =
+    tie.close
+    (tie.spec
+    Inv-loop μ-loop (λ c κs. c .before .before .before .before .pre .there) (λ c. let h = c .before .before .before .before .before .pre .there .2 in omega arith) loop-holds (λ c κs. place c) (λ c. goes-length (c .before .before .before .loop .inv .3 (c .before .before .before .before .before .before .before .before .before .pre .texts))) returns
+    (λ c. let h = c .before .before .before .before .before .before .before .before .before .pre .there .2 in omega arith) put-comma-requires (λ c. let h = place (c .before .before .before .before .before .before) .2 in omega arith) write-type-requires (λ c κs. place (c .before .before .before .before .before .before .before .before .before .before)) loop-less loop-again
+    (λ c. goes-length (c .before .loop .inv .3 (c .before .before .before .before .before .before .before .pre .texts))) returns-2)

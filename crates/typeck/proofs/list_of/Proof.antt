@@ -13,7 +13,7 @@ returns-2 : tie.Need-returns-2
 returns-2 c = listed-by (c .before .before .before .before .before .before .before .before .args .image .now) (2 * 2048 * 2048) (c .before .before .before .before .enum-told2 .given .1) (omega arith) (c .before .before .list2 .ensures)
 
 returns-3 : tie.Need-returns-3
-returns-3 c = listed-by (c .before .before .before .before .before .before .before .before .args .image .now) (2559 * 2048) (c .before .before .before .before .enum-told3 .given .1) (omega arith) (c .before .before .list3 .ensures)
+returns-3 c = listed-by (c .before .before .before .before .before .before .before .before .args .image .now) (3070 * 2048) (c .before .before .before .before .enum-told3 .given .1) (omega arith) (c .before .before .list3 .ensures)
 
 pub list-of-spec : {M : Type 1} → statement M
 list-of-spec =

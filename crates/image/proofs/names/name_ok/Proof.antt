@@ -31,7 +31,9 @@ form-requires : tie.Need-form-requires
 form-requires c κs = search needs
 
 returns-4 : tie.Need-returns-4
-returns-4 c = sym (name-other (c .before .before .before .before .before .before .before .args .text .now) (c .before .before .before .before .before .before .before .args .p) (c .before .before .before .before .before .before .before .args .a) (c .before .before .before .before .before .before .before .args .b) (c .before .before .before .before .before .if1 .left) (c .before .before .before .before .if2 .left) (c .before .before .before .if3 .left) (omega (arith, c .before .form .ensures)))
+returns-4 c =
+    let d = c .before .before .before .before .before .before .before in
+    sym (name-other (d .args .text .now) (d .args .p) (d .args .a) (d .args .b) (c .before .before .before .before .before .if1 .left) (c .before .before .before .before .if2 .left) (c .before .before .before .if3 .left) (omega (arith, c .before .form .ensures)))
 
 sub-below : tie.Need-sub-below
 sub-below c = search needs
@@ -55,7 +57,9 @@ below-requires : tie.Need-below-requires
 below-requires c κs = search needs
 
 returns-5 : tie.Need-returns-5
-returns-5 c = c .below .ensures ∙ sym (name-last (c .before .before .before .before .before .before .before .before .before .before .args .text .now) (c .before .before .before .before .before .before .before .before .before .before .args .p) (c .before .before .before .before .before .before .before .before .before .before .args .a) (c .before .before .before .before .before .before .before .before .before .before .args .b) (c .before .before .before .before .before .before .before .before .if1 .left) (c .before .before .before .before .before .before .before .if2 .left) (c .before .before .before .before .before .before .if3 .left) (omega (arith, c .before .before .before .before .form .ensures)))
+returns-5 c =
+    let d = c .before .before .before .before .before .before .before .before .before .before in
+    c .below .ensures ∙ sym (name-last (d .args .text .now) (d .args .p) (d .args .a) (d .args .b) (c .before .before .before .before .before .before .before .before .if1 .left) (c .before .before .before .before .before .before .before .if2 .left) (c .before .before .before .before .before .before .if3 .left) (omega (arith, c .before .before .before .before .form .ensures)))
 
 pub name-ok-spec : {M : Type 1} → statement M
 name-ok-spec =

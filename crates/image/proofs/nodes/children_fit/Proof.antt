@@ -5,10 +5,9 @@ use native.Mathlib.Omega.{arith}
 use Prim.Native.Nat.{ℕ, _≤_, _<_, _+_, _-_}
 use mathlib.Core.Path.{_≡_, refl, _∙_, sym, ap}
 use Rattle.image.specs.Node.{kindOf}
-use Rattle.image.specs.Table.{familyOf, after, rowOf}
-use Rattle.image.specs.Packed.{restAt}
-use Rattle.image.specs.Tree.{childrenFit, childrenFrom}
-use Rattle.image.proofs.Packed.{facts-family}
+use Rattle.image.specs.Digits.{familyOf, placeAfter, rowOf, restAt, childrenFrom}
+use Rattle.image.specs.Tree.{childrenFit}
+use Rattle.image.proofs.Digits.{facts-family}
 use Rattle.image.proofs.Walk.{fit-walk, Stepped, child-is, end-is, turn, stuck, closing}
 use Rattle.image.proofs.nodes.children_fit.Statement.{statement}
 use Rattle.image.proofs.nodes.children_fit.Tie as tie
@@ -58,7 +57,7 @@ loop-again c =
     let k = c .before .before .before .before .before .before .before .before .loop .c .at in
     let t = turn s q k (c .before .before .before .before .before .before .before .before .before .before .args .e) (i .1 .1) (omega arith) (omega arith) (omega arith) in
     let family = facts-family (c .before .before .kind .result) (c .before .facts .result) (c .before .facts .ensures) ∙ ap familyOf (c .before .before .kind .ensures .0 ∙ ap (kindOf s) (h .node)) in
-    (omega arith, (after q (familyOf (kindOf s k)), t .0, c .next .ensures q (i .1 .2) ∙ ap (λ (f : ℕ). restAt (after q f)) family, omega arith, cc (i .1 .4, t .2)))
+    (omega arith, (placeAfter q (familyOf (kindOf s k)), t .0, c .next .ensures q (i .1 .2) ∙ ap (λ (f : ℕ). restAt (placeAfter q f)) family, omega arith, cc (i .1 .4, t .2)))
 
 over : (c : tie.After-enum-told Inv-loop μ-loop) → c .before .before .before .loop .c .end ≤ c .before .before .before .loop .c .at
 over c = end-is (c .before .before .before .before .before .args .nodes .now) _ _ (sym (c .enum-told .given .1) ∙ c .before .before .step .ensures)
@@ -78,20 +77,4 @@ returns-3 c = let h = over (c .before) in let i = c .before .before .before .bef
 pub children-fit-spec : {M : Type 1} → statement M
 children-fit-spec =
     tie.close
-    (tie.spec
-    Inv-loop
-    μ-loop
-    add-t12
-    loop-holds
-    step-requires
-    enum-known-k
-    returns
-    kind-requires
-    facts-requires
-    next-requires
-    loop-less
-    loop-again
-    enum-told
-    may-end-requires
-    returns-2
-    returns-3)
+    (tie.spec Inv-loop μ-loop add-t12 loop-holds step-requires enum-known-k returns kind-requires facts-requires next-requires loop-less loop-again enum-told may-end-requires returns-2 returns-3)

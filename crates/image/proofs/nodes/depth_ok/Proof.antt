@@ -1,10 +1,10 @@
 -- `depth_ok` meets its contract: after i nodes the table counts those that end at each place, and `closed` those that have ended before i.
 use Rattle.image.specs.Pick.{every}
 use Rattle.image.specs.Node.{endOf}
-use Rattle.image.specs.Tree.{endsAt, shallow, ancestorsOf}
+use Rattle.image.specs.Tree.{shallow, ancestorsOf}
 use Rattle.image.proofs.Every.{every-none, every-more, every-fails, every-all}
 use Rattle.image.proofs.Tree.{shallow-yes, shallow-no}
-use Rattle.image.proofs.Counted.{closedAt, closed-none, closed-more, ancestors-are, ended-here, count-le, Tallied, tallied-none, tallied-set}
+use Rattle.image.proofs.Counted.{endsAt, closedAt, closed-none, closed-more, ancestors-are, ended-here, count-le, Tallied, tallied-none, tallied-set}
 use borrow.Author.Needs.{needs}
 use native.Mathlib.Omega.{arith}
 use Prim.Native.Nat.{ℕ, _+_, _≤_, _<_, _-_}
@@ -91,23 +91,4 @@ returns-2 c = sym (every-all _ _ _ (c .before .loop .inv .0) (c .loop-test .left
 pub depth-ok-spec : {M : Type 1} → statement M
 depth-ok-spec =
     tie.close
-    (tie.spec
-    Inv-loop
-    μ-loop
-    loop-holds
-    mul-wide16
-    array-read-wide16
-    wide16-requires
-    add-closed
-    sub-if1
-    returns
-    end-requires
-    mul-ends
-    array-read-ends
-    add-ends
-    mul-ends-2
-    array-write-ends
-    add-i
-    loop-less
-    loop-again
-    returns-2)
+    (tie.spec Inv-loop μ-loop loop-holds mul-wide16 array-read-wide16 wide16-requires add-closed sub-if1 returns end-requires mul-ends array-read-ends add-ends mul-ends-2 array-write-ends add-i loop-less loop-again returns-2)

@@ -22,23 +22,31 @@ offset-requires : tie.Need-offset-requires
 offset-requires c κs = search needs
 
 shared-slice-read-result : tie.Need-shared-slice-read-result
-shared-slice-read-result c = name-starts (c .before .before .before .before .before .before .before .before .args .names .now) (c .before .before .before .before .before .before .before .before .args .text .now) (c .before .before .before .before .before .before .before .before .args .m) (c .before .before .before .before .before .before .before .before .args .n) (c .before .before .offset .result) (c .before .before .before .before .before .before .before .before .pre .1) (c .before .before .before .before .if2 .left) (c .before .before .before .if3 .left) (c .before .before .offset .ensures .0)
+shared-slice-read-result c =
+    let d = c .before .before .before .before .before .before .before .before in
+    name-starts (d .args .names .now) (d .args .text .now) (d .args .m) (d .args .n) (c .before .before .offset .result) (d .pre .1) (c .before .before .before .before .if2 .left) (c .before .before .before .if3 .left) (c .before .before .offset .ensures .0)
 
 returns-4 : tie.Need-returns-4
-returns-4 c = λ k e.
+returns-4 c =
+    let d = c .before .before .before .before .before .before .before .before in
+    λ k e.
     sym (fits-form _ _ _ _ _ _ e (c .before .before .before .before .before .if1 .left) (c .before .before .before .before .if2 .left) (c .before .before .before .if3 .left)
-    ∙ ap (λ (x : ℕ). eqb (formOf (textOf (c .before .before .before .before .before .before .before .before .args .names .now) (c .before .before .before .before .before .before .before .before .args .text .now) (c .before .before .before .before .before .before .before .before .args .n))) x) (c .before .if4 .taken)
-    ∙ number-is (c .before .before .before .before .before .before .before .before .args .names .now) (c .before .before .before .before .before .before .before .before .args .text .now) (c .before .before .before .before .before .before .before .before .args .m) (c .before .before .before .before .before .before .before .before .args .n) (c .before .before .offset .result) (c .before .before .before .before .before .before .before .before .pre .1) (c .before .before .before .before .if2 .left) (c .before .before .before .if3 .left) (c .before .before .offset .ensures .0))
+    ∙ ap (λ (x : ℕ). eqb (formOf (textOf (d .args .names .now) (d .args .text .now) (d .args .n))) x) (c .before .if4 .taken)
+    ∙ number-is (d .args .names .now) (d .args .text .now) (d .args .m) (d .args .n) (c .before .before .offset .result) (d .pre .1) (c .before .before .before .before .if2 .left) (c .before .before .before .if3 .left) (c .before .before .offset .ensures .0))
 
 shared-slice-read-result-2 : tie.Need-shared-slice-read-result-2
-shared-slice-read-result-2 c = name-starts (c .before .before .before .before .before .before .before .before .args .names .now) (c .before .before .before .before .before .before .before .before .args .text .now) (c .before .before .before .before .before .before .before .before .args .m) (c .before .before .before .before .before .before .before .before .args .n) (c .before .before .offset .result) (c .before .before .before .before .before .before .before .before .pre .1) (c .before .before .before .before .if2 .left) (c .before .before .before .if3 .left) (c .before .before .offset .ensures .0)
+shared-slice-read-result-2 c =
+    let d = c .before .before .before .before .before .before .before .before in
+    name-starts (d .args .names .now) (d .args .text .now) (d .args .m) (d .args .n) (c .before .before .offset .result) (d .pre .1) (c .before .before .before .before .if2 .left) (c .before .before .before .if3 .left) (c .before .before .offset .ensures .0)
 
 returns-5 : tie.Need-returns-5
-returns-5 c = λ k e.
-    let one : c .before .before .before .before .before .before .before .before .args .f ≡ 1 = let a = c .before .before .before .before .before .if1 .left in let b = c .before .if4 .left in omega arith in
+returns-5 c =
+    let d = c .before .before .before .before .before .before .before .before in
+    λ k e.
+    let one : d .args .f ≡ 1 = let a = c .before .before .before .before .before .if1 .left in let b = c .before .if4 .left in omega arith in
     sym (fits-form _ _ _ _ _ _ e (c .before .before .before .before .before .if1 .left) (c .before .before .before .before .if2 .left) (c .before .before .before .if3 .left)
-    ∙ ap (λ (x : ℕ). eqb (formOf (textOf (c .before .before .before .before .before .before .before .before .args .names .now) (c .before .before .before .before .before .before .before .before .args .text .now) (c .before .before .before .before .before .before .before .before .args .n))) x) one
-    ∙ identifier-is (c .before .before .before .before .before .before .before .before .args .names .now) (c .before .before .before .before .before .before .before .before .args .text .now) (c .before .before .before .before .before .before .before .before .args .m) (c .before .before .before .before .before .before .before .before .args .n) (c .before .before .offset .result) (c .before .before .before .before .before .before .before .before .pre .1) (c .before .before .before .before .if2 .left) (c .before .before .before .if3 .left) (c .before .before .offset .ensures .0))
+    ∙ ap (λ (x : ℕ). eqb (formOf (textOf (d .args .names .now) (d .args .text .now) (d .args .n))) x) one
+    ∙ identifier-is (d .args .names .now) (d .args .text .now) (d .args .m) (d .args .n) (c .before .before .offset .result) (d .pre .1) (c .before .before .before .before .if2 .left) (c .before .before .before .if3 .left) (c .before .before .offset .ensures .0))
 
 pub name-fits-spec : {M : Type 1} → statement M
 name-fits-spec =

@@ -5,10 +5,9 @@ use mathlib.Core.Path.{_≡_, _∙_, sym, ap}
 use borrow.Author.Tests.{not-true, not-false}
 use borrow.Author.Needs.{needs}
 use Rattle.image.specs.Node.{kindOf, nameOf}
-use Rattle.image.specs.Table.{rowOf}
-use Rattle.image.specs.Packed.{restAt}
+use Rattle.image.specs.Digits.{rowOf, restAt}
 use Rattle.image.specs.Tree.{childrenFit, carries, nameFits}
-use Rattle.image.proofs.Packed.{carries-small, facts-text, facts-row}
+use Rattle.image.proofs.Digits.{carries-small, facts-text, facts-row}
 use Rattle.image.proofs.Tree.{node-zero, node-half, node-name, node-low, node-high, node-children}
 use Rattle.image.proofs.nodes.node_ok.Statement.{statement}
 use Rattle.image.proofs.nodes.node_ok.Tie as tie
@@ -56,7 +55,10 @@ row c = facts-row _ _ (c .before .facts .ensures) ∙ ap (λ (k : ℕ). restAt (
 name-fits-requires : tie.Need-name-fits-requires
 name-fits-requires c κs = let t = text c in let s = carries-small (kindOf (c .before .before .before .before .before .before .before .before .before .before .args .nodes .now) (c .before .before .before .before .before .before .before .before .before .before .args .i)) in (search needs, search needs, omega arith)
 
-judged : (c : tie.After-name-fits) → c .name-fits .result ≡ nameFits (c .before .before .before .before .before .before .before .before .before .before .before .args .names .now) (c .before .before .before .before .before .before .before .before .before .before .before .args .text .now) (c .before .before .before .before .before .before .before .before .before .before .before .args .m) (kindOf (c .before .before .before .before .before .before .before .before .before .before .before .args .nodes .now) (c .before .before .before .before .before .before .before .before .before .before .before .args .i)) (nameOf (c .before .before .before .before .before .before .before .before .before .before .before .args .nodes .now) (c .before .before .before .before .before .before .before .before .before .before .before .args .i))
+judged : (c : tie.After-name-fits)
+    → c .name-fits .result ≡ nameFits (c .before .before .before .before .before .before .before .before .before .before .before .args .names .now) (c .before .before .before .before .before .before .before .before .before .before .before .args .text .now) (c .before .before .before .before .before .before .before .before .before .before .before .args .m)
+    (kindOf (c .before .before .before .before .before .before .before .before .before .before .before .args .nodes .now) (c .before .before .before .before .before .before .before .before .before .before .before .args .i))
+    (nameOf (c .before .before .before .before .before .before .before .before .before .before .before .args .nodes .now) (c .before .before .before .before .before .before .before .before .before .before .before .args .i))
 judged c =
     let a = c .before .before .before .before .before .before .before .before .before .before .before .args in
     let k = kindOf (a .nodes .now) (a .i) in

@@ -1,7 +1,6 @@
 -- `tree_ok` meets its contract: every node passed is in order. The code's table of kinds is that of the definitions, by computation.
 use Rattle.image.specs.Pick.{every}
-use Rattle.image.specs.Table.{familyOf, partAt}
-use Rattle.image.specs.Packed.{restFrom, restAt, kindFacts, kindsFrom, kindTable}
+use Rattle.image.specs.Digits.{familyOf, partAt, restFrom, restAt, kindFacts, kindsFrom, kindTable}
 use Rattle.image.specs.Tree.{carries, nodeOk, treeOk}
 use Rattle.image.proofs.Every.{every-none, every-more, every-fails, every-all}
 use Rattle.image.proofs.Tree.{tree-kind, tree-end, tree-each}
@@ -32,7 +31,9 @@ end-requires c κs = search needs
 returns-2 : tie.Need-returns-2 Inv-loop μ-loop
 returns-2 c = sym (tree-end (c .before .before .before .before .before .before .before .args .nodes .now) _ _ (c .before .before .before .before .before .before .before .args .n) _ (omega arith) (omega (arith, c .if2 .taken)))
 
-each : (c : tie.At-loop Inv-loop μ-loop) → treeOk (c .before .before .before .before .before .before .before .before .args .nodes .now) (c .before .before .before .before .before .before .before .before .args .names .now) (c .before .before .before .before .before .before .before .before .args .text .now) (c .before .before .before .before .before .before .before .before .args .n) (c .before .before .before .before .before .before .before .before .args .m) ≡ every (nodeOk (c .before .before .before .before .before .before .before .before .args .nodes .now) (c .before .before .before .before .before .before .before .before .args .names .now) (c .before .before .before .before .before .before .before .before .args .text .now) (c .before .before .before .before .before .before .before .before .args .n) (c .before .before .before .before .before .before .before .before .args .m)) (c .before .before .before .before .before .before .before .before .args .n)
+each : (c : tie.At-loop Inv-loop μ-loop)
+    → treeOk (c .before .before .before .before .before .before .before .before .args .nodes .now) (c .before .before .before .before .before .before .before .before .args .names .now) (c .before .before .before .before .before .before .before .before .args .text .now) (c .before .before .before .before .before .before .before .before .args .n) (c .before .before .before .before .before .before .before .before .args .m)
+    ≡ every (nodeOk (c .before .before .before .before .before .before .before .before .args .nodes .now) (c .before .before .before .before .before .before .before .before .args .names .now) (c .before .before .before .before .before .before .before .before .args .text .now) (c .before .before .before .before .before .before .before .before .args .n) (c .before .before .before .before .before .before .before .before .args .m)) (c .before .before .before .before .before .before .before .before .args .n)
 each c = tree-each (c .before .before .before .before .before .before .before .before .args .nodes .now) _ _ (c .before .before .before .before .before .before .before .before .args .n) _ (omega arith) (omega arith)
 
 loop-holds : tie.Need-loop-holds Inv-loop μ-loop

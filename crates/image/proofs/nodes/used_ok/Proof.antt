@@ -40,13 +40,4 @@ returns-2 c = sym (every-all _ _ _ (c .before .loop .inv .0) (c .loop-test .left
 pub used-ok-spec : {M : Type 1} → statement M
 used-ok-spec =
     tie.close
-    (tie.spec
-    Inv-loop
-    μ-loop
-    loop-holds
-    is-used-requires
-    returns
-    add-k
-    loop-less
-    loop-again
-    returns-2)
+    (tie.spec Inv-loop μ-loop loop-holds is-used-requires returns add-k loop-less loop-again returns-2)

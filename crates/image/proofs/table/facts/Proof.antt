@@ -4,7 +4,7 @@ use mathlib.Core.Path.{_∙_, ap}
 use mathlib.Core.List.{List}
 use lib.ListN.{getD}
 use borrow.Author.Needs.{needs}
-use Rattle.image.proofs.Packed.{facts-at, facts-past}
+use Rattle.image.proofs.Digits.{facts-at, facts-past}
 use Rattle.image.proofs.table.facts.Statement.{statement}
 use Rattle.image.proofs.table.facts.Tie as tie
 

@@ -2,9 +2,8 @@
 use Prim.Native.Nat.{ℕ, _+_}
 use native.Mathlib.Omega.{arith}
 use mathlib.Core.Path.{_≡_, refl, _∙_, sym}
-use Rattle.image.specs.Table.{ends}
-use Rattle.image.specs.Packed.{restAt}
-use Rattle.image.proofs.Packed.{end-wants, end-skips, end-over}
+use Rattle.image.specs.Digits.{ends, restAt}
+use Rattle.image.proofs.Digits.{end-wants, end-skips, end-over}
 use Rattle.image.proofs.table.may_end.Statement.{statement}
 use Rattle.image.proofs.table.may_end.Tie as tie
 

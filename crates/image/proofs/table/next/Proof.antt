@@ -3,14 +3,13 @@ use Prim.Native.Nat.{ℕ, _+_}
 use native.Mathlib.Omega.{arith}
 use borrow.Author.Needs.{needs}
 use mathlib.Core.Path.{_≡_, refl, _∙_, sym, ap}
-use Rattle.image.specs.Table.{after}
-use Rattle.image.specs.Packed.{restAt}
-use Rattle.image.proofs.Packed.{next-stays, next-moves, next-fails, next-skips, next-over}
+use Rattle.image.specs.Digits.{placeAfter, restAt}
+use Rattle.image.proofs.Digits.{next-stays, next-moves, next-fails, next-skips, next-over}
 use Rattle.image.proofs.table.next.Statement.{statement}
 use Rattle.image.proofs.table.next.Tie as tie
 
 abbrev Inv-loop : tie.InvT-loop
-Inv-loop row f rest₀ rest = (q : ℕ) → row ≡ restAt q → (at : ℕ) × (rest ≡ restAt at) × (after q f ≡ after at f)
+Inv-loop row f rest₀ rest = (q : ℕ) → row ≡ restAt q → (at : ℕ) × (rest ≡ restAt at) × (placeAfter q f ≡ placeAfter at f)
 
 abbrev μ-loop : tie.MeasureT-loop
 μ-loop row f rest₀ rest = rest

@@ -3,7 +3,6 @@ use borrow.Author.Needs.{needs}
 use Prim.Native.Nat.{ℕ}
 use mathlib.Core.Path.{refl, ap}
 use lib.ListN.{getD, set}
-use lib.ListN.{getD, set}
 use Rattle.signature.proofs.overloads.enter.Statement.{statement}
 use Rattle.signature.proofs.overloads.enter.Tie as tie
 

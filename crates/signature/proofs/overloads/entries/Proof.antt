@@ -4,7 +4,6 @@ use native.Mathlib.Omega.{arith}
 use Prim.Native.Nat.{ℕ, _-_, _<_, _≤_}
 use mathlib.Core.Path.{refl}
 use mathlib.Core.List.{List}
-use mathlib.Core.List.{List}
 use Rattle.rules.specs.Tree.{entry}
 use Rattle.rules.specs.Resolve.{rule23, group23}
 use Rattle.records.proofs.Laws.{added-by}
@@ -25,9 +24,6 @@ Inv-loop nodes heads₀ links₀ keys₀ out₀ count end total₀ p₀ heads li
 abbrev μ-loop : tie.MeasureT-loop
 μ-loop nodes heads₀ links₀ keys₀ out₀ count end total₀ p₀ heads links keys out total p = end - p
 
-loop-holds : tie.Need-loop-holds Inv-loop μ-loop
-loop-holds c = let W = c .before .before .before .pre .0 .view in let S = span-below W (c .before .before .before .pre .1) (c .end .ensures W) in (S, sweep-starts (S .order), λ C. C .chains)
-
 -- what the item is lent
 
 abbrev chained-at : {nodes heads₀ links₀ keys₀ heads links keys : List ℕ} {p : ℕ} (C : Chained nodes 1 heads₀ links₀ keys₀) → Chains (C .view .image) p heads links keys → Chained nodes p heads links keys
@@ -45,12 +41,6 @@ moved c W = child-on W (c .before .before .before .before .before .before .befor
 next : (c : tie.After-end2 Inv-loop μ-loop) (W : View (c .before .before .before .before .before .before .before .before .before .before .before .before .before .args .nodes .now) 0) → Next W (c .before .before .before .before .before .before .before .before .before .loop .p) (c .end2 .result)
 next c W = record { here = place (c .before .before .before .before .before .before .before .before); low = c .before .before .before .before .before .before .before .before .before .loop .inv .1 .low; is = c .end2 .ensures W }
 
-end-requires-2 : tie.Need-end-requires-2 Inv-loop μ-loop
-end-requires-2 c κs = place (c .before .before .before .before .before .before .before)
-
-loop-less : tie.Need-loop-less Inv-loop μ-loop
-loop-less c = let m = moved c (c .before .before .before .before .before .before .before .before .before .before .before .before .before .pre .0 .view) in let x = m .0 in let y = m .1 in omega arith
-
 loop-again : tie.Need-loop-again Inv-loop μ-loop
 loop-again c = let i = c .before .before .before .before .before .before .before .before .before .loop .inv in
     let m = moved c (c .before .before .before .before .before .before .before .before .before .before .before .before .before .pre .0 .view) in (
@@ -59,13 +49,14 @@ loop-again c = let i = c .before .before .before .before .before .before .before
       λ C. chains-on (C .view) (next c (C .view)) (c .before .before .before .entry .ensures .1 (chained-at C (i .2 C))),
     )
 
-same-length : tie.Need-same-length Inv-loop μ-loop
-same-length c = sweep-long (c .before .loop .inv .1) (c .before .before .before .before .before .pre .0)
-
 returns : tie.Need-returns Inv-loop μ-loop
 unfolding group23
 returns c = let i = c .before .loop .inv in
     swept (i .1) (c .loop-test .left) (λ C. run-below (treeOf (C .view)) entry (rule23 (treeOf (C .view))) 0 1 _ refl (c .before .before .end .ensures (C .view))) (let u = i .0 .under in omega arith)
 
 pub entries-spec : {M : Type 1} → statement M
-entries-spec = tie.close (tie.spec Inv-loop μ-loop (λ c κs. search needs) loop-holds entry-requires end-requires-2 loop-less loop-again same-length returns)
+entries-spec =
+    tie.close
+    (tie.spec
+    Inv-loop μ-loop (λ c κs. search needs) (λ c. let W = c .before .before .before .pre .0 .view in let S = span-below W (c .before .before .before .pre .1) (c .end .ensures W) in (S, sweep-starts (S .order), λ C. C .chains)) entry-requires (λ c κs. place (c .before .before .before .before .before .before .before))
+    (λ c. let m = moved c (c .before .before .before .before .before .before .before .before .before .before .before .before .before .pre .0 .view) in let x = m .0 in let y = m .1 in omega arith) loop-again (λ c. sweep-long (c .before .loop .inv .1) (c .before .before .before .before .before .pre .0)) returns)

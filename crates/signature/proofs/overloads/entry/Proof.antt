@@ -17,12 +17,6 @@ no-entry c W e = c .if1 .taken (c .before .kind .ensures W ∙ e)
 is-entry : (c : tie.Else1) (W : View (c .before .before .before .before .args .nodes .now) 0) → treeOf W .kind (c .before .before .before .before .args .item) ≡ 9
 is-entry c W = sym (c .before .kind .ensures W) ∙ c .if1 .left
 
-returns : tie.Need-returns
-returns c = (added-nothing (λ C. at-other (treeOf (C .view)) _ (no-entry c (C .view))), λ C. chains-skip (C .view .image) (C .chains) (other-not-new (C .view .image) _ (no-entry c (C .view))))
-
-entry-key-requires : tie.Need-entry-key-requires
-entry-key-requires c κs = let W = c .before .before .before .before .pre .0 .view in record { view = W; here = c .before .before .before .before .pre .1; low = c .before .before .before .before .pre .2; is = is-entry c W }
-
 -- what is sought, by whichever image the nodes are seen; and what is found
 
 abbrev Given : tie.Start → Type 0
@@ -38,9 +32,6 @@ sought c C = record {
 found : (c : tie.After-first-signed) (C : Given (c .before .before .before .before .before .before .before .before .before)) → c .first-signed .result ≡ firstSigned (treeOf (C .view)) (signature (treeOf (C .view)) (c .before .before .before .before .before .before .before .before .before .args .item))
 unfolding sought
 found c C = c .first-signed .ensures .1 (sought (c .before .before .before .before) C)
-
-first-signed-requires : tie.Need-first-signed-requires
-first-signed-requires c κs = sought (c .before .before .before) (c .before .before .before .before .before .before .before .before .pre .0)
 
 returns-2 : tie.Need-returns-2
 returns-2 c = let P = c .before .before .before .before .before .before .before .before .before .before .before .before .before .before .pre in (
@@ -60,4 +51,8 @@ returns-3 c = let P = c .before .before .before .before .before .before .before 
 )
 
 pub entry-spec : {M : Type 1} → statement M
-entry-spec = tie.close (tie.spec (λ c κs. search needs) returns entry-key-requires first-signed-requires (λ c. search needs) (λ c. search needs) (λ c. search needs) (λ c. search needs) (λ c κs. search needs) (λ c. search needs) returns-2 (λ c κs. search needs) returns-3)
+entry-spec =
+    tie.close
+    (tie.spec
+    (λ c κs. search needs) (λ c. (added-nothing (λ C. at-other (treeOf (C .view)) _ (no-entry c (C .view))), λ C. chains-skip (C .view .image) (C .chains) (other-not-new (C .view .image) _ (no-entry c (C .view))))) (λ c κs. let W = c .before .before .before .before .pre .0 .view in record { view = W; here = c .before .before .before .before .pre .1; low = c .before .before .before .before .pre .2; is = is-entry c W })
+    (λ c κs. sought (c .before .before .before) (c .before .before .before .before .before .before .before .before .pre .0)) (λ c. search needs) (λ c. search needs) (λ c. search needs) (λ c. search needs) (λ c κs. search needs) (λ c. search needs) returns-2 (λ c κs. search needs) returns-3)

@@ -25,23 +25,11 @@ loop-holds c = let E = c .before .before .before .pre in
 before-end : (c : tie.In-loop Inv-loop μ-loop) (W : View (c .before .before .before .before .before .args .nodes .now) 0) → c .before .loop .p < treeOf W .end (c .before .before .before .before .before .args .e)
 before-end c W = let d = c .before .before .before .end .ensures W in let g = c .loop-test .taken in omega arith
 
-kind-requires : tie.Need-kind-requires Inv-loop μ-loop
-kind-requires c κs = param-in (c .before .before .before .before .before .pre .view) (c .before .before .before .before .before .pre .here) (c .before .loop .inv .0) (before-end c (c .before .before .before .before .before .pre .view))
-
-returns : tie.Need-returns Inv-loop μ-loop
-returns c = λ W. key-done W (c .before .before .before .loop .inv .2 W) (λ h k. c .if1 .taken (c .before .kind .ensures W ∙ k))
-
 is-param : (c : tie.Else1 Inv-loop μ-loop) (W : View (c .before .before .before .before .before .before .before .args .nodes .now) 0) → treeOf W .kind (c .before .before .before .loop .p) ≡ 10
 is-param c W = sym (c .before .kind .ensures W) ∙ c .if1 .left
 
 typed : (c : tie.Else1 Inv-loop μ-loop) → In (c .before .before .before .before .before .before .before .args .nodes .now) 0 (c .before .before .before .loop .p + 2)
 typed c = let W = c .before .before .before .before .before .before .before .pre .view in param-type-in W (c .before .before .before .before .before .before .before .pre .here) (c .before .before .before .loop .inv .0) (before-end (c .before .before) W) (is-param c W) .0
-
-add-type-key : tie.Need-add-type-key Inv-loop μ-loop
-add-type-key c = let t = typed c in let u = t .2 in omega arith
-
-type-key-requires : tie.Need-type-key-requires Inv-loop μ-loop
-type-key-requires c κs = (c .before .before .before .before .before .before .before .pre .view, typed c)
 
 end-requires-2 : tie.Need-end-requires-2 Inv-loop μ-loop
 end-requires-2 c κs = param-in (c .before .before .before .before .before .before .before .before .pre .view) (c .before .before .before .before .before .before .before .before .pre .here) (c .before .before .before .before .loop .inv .0) (before-end (c .before .before .before) (c .before .before .before .before .before .before .before .before .pre .view))
@@ -61,8 +49,10 @@ loop-again c = let U = c .before .before .before .before .before .before .before
     let d = c .before .before .before .before .before .before .before .end .ensures U in
     (omega arith, omega arith, λ W. key-on W (c .before .before .before .before .before .before .before .before .before .pre .here) l (before-end (c .before .before .before .before) W) (is-param (c .before .before) W) (c .before .before .before .before .before .loop .inv .2 W) (c .before .type-key .ensures W) (c .end2 .ensures W))
 
-returns-2 : tie.Need-returns-2 Inv-loop μ-loop
-returns-2 c = λ W. let d = c .before .before .before .end .ensures W in let g = c .loop-test .left in key-done W (c .before .loop .inv .2 W) (λ h k. omega arith)
-
 pub entry-key-spec : {M : Type 1} → statement M
-entry-key-spec = tie.close (tie.spec Inv-loop μ-loop (λ c κs. search needs) (λ c. search needs) (λ c κs. let E = c .before .before .pre in entry-first (E .view) (E .here) (E .is) .0) (λ c. search needs) loop-holds kind-requires returns add-type-key type-key-requires end-requires-2 loop-less loop-again returns-2)
+entry-key-spec =
+    tie.close
+    (tie.spec
+    Inv-loop μ-loop (λ c κs. search needs) (λ c. search needs) (λ c κs. let E = c .before .before .pre in entry-first (E .view) (E .here) (E .is) .0) (λ c. search needs) loop-holds (λ c κs. param-in (c .before .before .before .before .before .pre .view) (c .before .before .before .before .before .pre .here) (c .before .loop .inv .0) (before-end c (c .before .before .before .before .before .pre .view)))
+    (λ c. λ W. key-done W (c .before .before .before .loop .inv .2 W) (λ h k. c .if1 .taken (c .before .kind .ensures W ∙ k))) (λ c. let t = typed c in let u = t .2 in omega arith) (λ c κs. (c .before .before .before .before .before .before .before .pre .view, typed c)) end-requires-2 loop-less loop-again
+    (λ c. λ W. let d = c .before .before .before .end .ensures W in let g = c .loop-test .left in key-done W (c .before .loop .inv .2 W) (λ h k. omega arith)))

@@ -19,9 +19,6 @@ Inv-loop nodes g e to-g to-e p₀ q₀ p q = (g + 2 ≤ p) × (p ≤ to-g) × (e
 abbrev μ-loop : tie.MeasureT-loop
 μ-loop nodes g e to-g to-e p₀ q₀ p q = to-g - p
 
-returns : tie.Need-returns Inv-loop μ-loop
-returns c = λ W. pair-names (by (c .before .before .before .before .pre) W) (λ e. c .if1 .taken (c .before .before .name .ensures W ∙ e ∙ sym (c .before .name2 .ensures W)))
-
 loop-holds : tie.Need-loop-holds Inv-loop μ-loop
 loop-holds c = let E = c .before .before .before .before .before .before .pre in
     let f = to-first E in
@@ -30,9 +27,6 @@ loop-holds c = let E = c .before .before .before .before .before .before .pre in
     let a = c .before .end .ensures (E .view) in
     let d = c .end2 .ensures (E .view) in
     (omega arith, omega arith, omega arith, omega arith, λ F. pair-starts F (sym (c .before .before .before .before .name .ensures (F .view)) ∙ c .before .before .if1 .left ∙ c .before .before .before .name2 .ensures (F .view)))
-
-is-param-requires : tie.Need-is-param-requires Inv-loop μ-loop
-is-param-requires c κs = λ h. let E = c .before .before .before .before .before .before .before .pre in let d = c .before .before .end .ensures (E .view) in param-in (E .view) (E .there-g) (c .loop .inv .0) (omega arith)
 
 is-param-requires-2 : tie.Need-is-param-requires-2 Inv-loop μ-loop
 is-param-requires-2 c κs = λ h. let E = c .before .before .before .before .before .before .before .before .before .pre in let d = c .before .before .before .end2 .ensures (E .view) in param-in (E .view) (E .there-e) (c .before .before .loop .inv .2) (omega arith)
@@ -62,12 +56,6 @@ is-e c W = yes-param (treeOf W) (c .before .before .before .before .before .befo
 returns-3 : tie.Need-returns-3 Inv-loop μ-loop
 returns-3 c = λ W. let F = by (c .before .before .before .before .before .before .before .before .before .before .before .pre) W in
     pair-short F (c .before .before .before .before .loop .inv .4 F) (c .before .before .before .before .loop .inv .0) (c .before .before .before .before .loop .inv .2) (yes-g (c .before .before) W) (sym (asked (treeOf W) (c .before .before .before .before .before .before .before .before .before .before .before .args .e) (c .before .before .before .before .loop .q) (c .before .is-param3 .ensures W) (c .before .before .before .before .before .end2 .ensures W)) ∙ not-true _ (c .if3 .taken))
-
-add-same-type : tie.Need-add-same-type Inv-loop μ-loop
-add-same-type c = let E = c .before .before .before .before .before .before .before .before .before .before .before .pre in let h = few-nodes (E .view) (E .there-g) .1 in let x = is-g c (E .view) .0 in omega arith
-
-add-same-type-2 : tie.Need-add-same-type-2 Inv-loop μ-loop
-add-same-type-2 c = let E = c .before .before .before .before .before .before .before .before .before .before .before .pre in let h = few-nodes (E .view) (E .there-e) .1 in let x = is-e c (E .view) .0 in omega arith
 
 same-type-requires : tie.Need-same-type-requires Inv-loop μ-loop
 same-type-requires c κs = let E = c .before .before .before .before .before .before .before .before .before .before .before .pre in
@@ -99,9 +87,6 @@ moved c = let E = c .before .before .before .before .before .before .before .bef
     let n1 = n .1 in
     (m .0, omega arith, n .0, omega arith)
 
-loop-less : tie.Need-loop-less Inv-loop μ-loop
-loop-less c = let m = moved c in let x = m .0 in let y = m .1 in omega arith
-
 loop-again : tie.Need-loop-again Inv-loop μ-loop
 loop-again c = let m = moved c in
     let l = c .before .before .before .before .before .before .before .before .loop .inv in
@@ -112,4 +97,10 @@ loop-again c = let m = moved c in
     (omega arith, m .1, omega arith, m .3, λ F. pair-on F (l .4 F) l0 l2 (yes-g (c .before .before .before .before .before .before) (F .view)) (yes-e (c .before .before .before .before) (F .view)) (sym (not-false _ (c .before .before .if4 .left)) ∙ c .before .before .before .same-type .ensures (F .view)) (c .before .end3 .ensures (F .view)) (c .end4 .ensures (F .view)))
 
 pub same-signature-spec : {M : Type 1} → statement M
-same-signature-spec = tie.close (tie.spec Inv-loop μ-loop (λ c. search needs) (λ c κs. name-in-g (c .before .pre)) (λ c. search needs) (λ c κs. name-in-e (c .before .before .pre)) returns (λ c κs. c .before .before .before .before .pre .there-g) (λ c κs. c .before .before .before .before .before .pre .there-e) (λ c. search needs) (λ c. search needs) loop-holds is-param-requires is-param-requires-2 returns-2 is-param-requires-3 returns-3 add-same-type add-same-type-2 same-type-requires returns-4 end-requires-3 end-requires-4 loop-less loop-again)
+same-signature-spec =
+    tie.close
+    (tie.spec
+    Inv-loop μ-loop (λ c. search needs) (λ c κs. name-in-g (c .before .pre)) (λ c. search needs) (λ c κs. name-in-e (c .before .before .pre)) (λ c. λ W. pair-names (by (c .before .before .before .before .pre) W) (λ e. c .if1 .taken (c .before .before .name .ensures W ∙ e ∙ sym (c .before .name2 .ensures W)))) (λ c κs. c .before .before .before .before .pre .there-g)
+    (λ c κs. c .before .before .before .before .before .pre .there-e) (λ c. search needs) (λ c. search needs) loop-holds (λ c κs. λ h. let E = c .before .before .before .before .before .before .before .pre in let d = c .before .before .end .ensures (E .view) in param-in (E .view) (E .there-g) (c .loop .inv .0) (omega arith)) is-param-requires-2 returns-2 is-param-requires-3 returns-3
+    (λ c. let E = c .before .before .before .before .before .before .before .before .before .before .before .pre in let h = few-nodes (E .view) (E .there-g) .1 in let x = is-g c (E .view) .0 in omega arith) (λ c. let E = c .before .before .before .before .before .before .before .before .before .before .before .pre in let h = few-nodes (E .view) (E .there-e) .1 in let x = is-e c (E .view) .0 in omega arith) same-type-requires
+    returns-4 end-requires-3 end-requires-4 (λ c. let m = moved c in let x = m .0 in let y = m .1 in omega arith) loop-again)

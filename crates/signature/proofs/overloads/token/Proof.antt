@@ -2,10 +2,7 @@
 use borrow.Author.Needs.{needs}
 use native.Mathlib.Omega.{arith}
 use Prim.Native.Nat.{ℕ, _+_, _*_, _-_}
-use mathlib.Core.Path.{_≡_, sym, ap, _∙_}
-use mathlib.Core.Path.{_≡_, ap, ap₂, _∙_, sym}
-use Prim.Native.Nat.{ℕ, _+_, _*_, _-_}
-use native.Mathlib.Omega.{arith}
+use mathlib.Core.Path.{_≡_, sym, ap, _∙_, ap₂}
 use Rattle.image.specs.Node.{kindOf, nameOf}
 use Rattle.nodes.proofs.Parts.{kind-is, number-is}
 use Rattle.signature.proofs.overloads.token.Statement.{statement}

@@ -1,4 +1,0 @@
-pub mod Heads
-pub mod Said
-pub mod Called
-pub mod Marked

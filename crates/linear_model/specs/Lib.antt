@@ -1,3 +1,0 @@
-pub mod Found
-pub mod Inner
-pub mod Called

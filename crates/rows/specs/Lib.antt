@@ -1,2 +1,0 @@
-pub mod Tracked
-pub mod Ruled
