@@ -12,7 +12,7 @@ use lib.Seq.{getD-append-seam}
 use Rattle.image.specs.Pick.{pick}
 use Rattle.rules.specs.Sweep.{run, keep, has}
 use Rattle.rules.specs.Tree.{Tree, tree, param-let}
-use Rattle.rules.specs.Vocabulary.{Rec, alone, below}
+use Rattle.rules.specs.Vocabulary.{alone, below}
 use Rattle.rules.specs.Linear.{isRow, marks, uses, second, judged, rowRule}
 use Rattle.records.proofs.Sweep.{run-next, run-same}
 use Rattle.linear_tracked.specs.Rows.{rowsOf, Rows}
@@ -41,7 +41,7 @@ index-run {A} F X f a (suc n) h =
         ∙ sym (run-next (λ r. f (getD (xs ++ y ∷ []) r 0)) 0 (length xs))
         ∙ ap (run (λ r. f (getD (xs ++ y ∷ []) r 0)) 0) (sym (length-append xs (y ∷ [])))
 
-rows-run : (t : Tree) (e : ℕ) (f : ℕ → List Rec) → run (λ r. f (getD (rowsOf e t) r 0)) 0 (length (rowsOf e t)) ≡ below t param-let e (λ x. keep (isRow t x) f x)
+pub rows-run : {A : Type 0} (t : Tree) (e : ℕ) (f : ℕ → List A) → run (λ r. f (getD (rowsOf e t) r 0)) 0 (length (rowsOf e t)) ≡ below t param-let e (λ x. keep (isRow t x) f x)
 unfolding below keep
 rows-run t e f = sym (index-run _ _ f (suc e) (t .end e - suc e) (λ i. go i (has (t .kind i) param-let) (isRow t i) refl))
   where
@@ -51,15 +51,26 @@ rows-run t e f = sym (index-run _ _ f (suc e) (t .end e - suc e) (λ i. go i (ha
     go i false q d = inl (refl, refl)
 
 module _ {s : List ℕ} (e : ℕ) {n : ℕ} {places first last tallies : List ℕ} (R : Rows s (rowsOf e (tree s)) n places first last) (C : Tallied (rowMarks (tree s) e) (rowUses (tree s) e) tallies) where
-  row-judged : (r : ℕ) → r < n → judgedAt places tallies r ≡ rowRule (tree s) e (getD (rowsOf e (tree s)) r 0)
-  unfolding rowRule judged
-  row-judged r l =
-      let k = R .few in
-      let h : ltb r (length (rowsOf e (tree s))) ≡ true = lt-ltb r _ (let z = R .count in omega arith) in
-      let a : marksAt tallies r ≡ length (marks (tree s) e (getD (rowsOf e (tree s)) r 0)) = C .marks r (omega arith) ∙ ap (λ (b : Bool). length (pick b (marks (tree s) e (getD (rowsOf e (tree s)) r 0)) [])) h in
-      let d : countAt tallies r ≡ length (uses (tree s) e (getD (rowsOf e (tree s)) r 0)) = C .counts r (omega arith) ∙ ap (λ (b : Bool). length (pick b (uses (tree s) e (getD (rowsOf e (tree s)) r 0)) [])) h in
-      let g : secondAt tallies r ≡ second (uses (tree s) e (getD (rowsOf e (tree s)) r 0)) = C .seconds r (omega arith) ∙ ap (λ (b : Bool). second (pick b (uses (tree s) e (getD (rowsOf e (tree s)) r 0)) [])) h in
-      rw (R .place-of r l, a, d, g) refl
+  -- what stands in the cells of row r
+  module _ (r : ℕ) (l : r < n) where
+    there : ltb r (length (rowsOf e (tree s))) ≡ true
+    there = lt-ltb r _ (let z = R .count in omega arith)
+
+    few : r < 511
+    few = let k = R .few in omega arith
+
+    pub row-marks : marksAt tallies r ≡ length (marks (tree s) e (getD (rowsOf e (tree s)) r 0))
+    row-marks = C .marks r few ∙ ap (λ (b : Bool). length (pick b (marks (tree s) e (getD (rowsOf e (tree s)) r 0)) [])) there
+
+    pub row-count : countAt tallies r ≡ length (uses (tree s) e (getD (rowsOf e (tree s)) r 0))
+    row-count = C .counts r few ∙ ap (λ (b : Bool). length (pick b (uses (tree s) e (getD (rowsOf e (tree s)) r 0)) [])) there
+
+    row-second : secondAt tallies r ≡ second (uses (tree s) e (getD (rowsOf e (tree s)) r 0))
+    row-second = C .seconds r few ∙ ap (λ (b : Bool). second (pick b (uses (tree s) e (getD (rowsOf e (tree s)) r 0)) [])) there
+
+    row-judged : judgedAt places tallies r ≡ rowRule (tree s) e (getD (rowsOf e (tree s)) r 0)
+    unfolding rowRule judged
+    row-judged = rw (R .place-of r l, row-marks, row-count, row-second) refl
 
   -- 61 and 62, rows in order
   pub rows-judged : run (judgedAt places tallies) 0 n ≡ below (tree s) param-let e (λ x. keep (isRow (tree s) x) (rowRule (tree s) e) x)

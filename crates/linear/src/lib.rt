@@ -17,7 +17,7 @@ ghost use Rattle.linear_occurrences.specs.Counted.{Clear};
 ghost use Rattle.linear.specs.Seen.{RowsNoted, Tallies-entry, LinearTables, CleansRows, seenLinear, itemLinear};
 
 // The marks and the counted occurrences of an entry on its rows.
-fn tally(
+pub fn tally(
     words: Words,
     nodes: &[u8],
     entry: usize,

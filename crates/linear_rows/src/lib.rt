@@ -192,7 +192,7 @@ fn used_twice(tallies: &Tallies, row: usize) -> Hit
 }
 
 // The cells of a row are blank again.
-fn blank(tallies: &mut Tallies, row: usize)
+pub fn blank(tallies: &mut Tallies, row: usize)
     requires { ⌜ row < 511 ⌝ }
     ensures { λ _. ⌜ new tallies ≡ set (set (set (old tallies) (3 * row) 0) (3 * row + 1) 0) (3 * row + 2) 0 ⌝ }
 {

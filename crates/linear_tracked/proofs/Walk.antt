@@ -24,19 +24,19 @@ run-on {A} f a p q l h g =
 pub record Filling (nodes : List ℕ) (words : Words) (from to : ℕ) (places₀ first₀ last₀ : List ℕ) (n : ℕ) (places first last : List ℕ) (p : ℕ) : Type 0 where
   pub low : from ≤ p
   pub high : p ≤ to
-  pub few : 4 * n < p
+  pub few : 4 * n + from ≤ p
   pub rows : (T : KnownWords nodes words) (xs : List ℕ) → Rows (T .view .image) xs 0 places₀ first₀ last₀ → Rows (T .view .image) (xs ++ run (λ i. rowAt i (treeOf (T .view))) from (p - from)) n places first last
 
 module _ {nodes : List ℕ} {words : Words} {from to : ℕ} {places₀ first₀ last₀ : List ℕ} where
-  pub filling-starts : 0 < from → from ≤ to → Filling nodes words from to places₀ first₀ last₀ 0 places₀ first₀ last₀ from
-  filling-starts z l = record {
+  pub filling-starts : from ≤ to → Filling nodes words from to places₀ first₀ last₀ 0 places₀ first₀ last₀ from
+  filling-starts l = record {
     low = omega arith;
     high = l;
     few = omega arith;
     rows = λ T xs R. rows-as (sym (ap (λ (m : ℕ). xs ++ run (λ i. rowAt i (treeOf (T .view))) from m) (sub-self from) ∙ ap (λ (m : List ℕ). xs ++ m) (run-none (λ i. rowAt i (treeOf (T .view))) from) ∙ append-nil xs)) R;
   }
 
-  pub filling-on : {n m p q : ℕ} {places first last places′ first′ last′ : List ℕ} → Filling nodes words from to places₀ first₀ last₀ n places first last p → p < q → q ≤ to → 4 * m < q
+  pub filling-on : {n m p q : ℕ} {places first last places′ first′ last′ : List ℕ} → Filling nodes words from to places₀ first₀ last₀ n places first last p → p < q → q ≤ to → 4 * m + from ≤ q
       → ((T : KnownWords nodes words) (i : ℕ) → p < i → i < q → has (treeOf (T .view) .kind i) param-let ≡ false)
       → ((T : KnownWords nodes words) (xs : List ℕ) → Rows (T .view .image) xs n places first last → Rows (T .view .image) (xs ++ rowAt p (treeOf (T .view))) m places′ first′ last′)
       → Filling nodes words from to places₀ first₀ last₀ m places′ first′ last′ q

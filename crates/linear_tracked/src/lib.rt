@@ -146,7 +146,7 @@ fn add_row(
     last: &mut Places,
 ) -> usize
     requires { ⌜ KnownWords (now nodes) words × In (now nodes) 0 p × (4 * n < p) ⌝ }
-    ensures { λ r. ⌜ ((T : KnownWords (old nodes) words) → 4 * r < treeOf (T .view) .end p) × Grows (rowAt p) nodes words n places first last r ⌝ }
+    ensures { λ r. ⌜ ((T : KnownWords (old nodes) words) → 4 * r + p ≤ 4 * n + treeOf (T .view) .end p) × Grows (rowAt p) nodes words n places first last r ⌝ }
 {
     if !is_row(words, nodes, p) {
         return n;
@@ -157,7 +157,7 @@ fn add_row(
     n + 1
 }
 
-// The rows of an entry in order; gives their number.
+// The rows of an entry in order; gives their number. Each has four nodes of the entry at least.
 pub fn track(
     words: Words,
     nodes: &[u8],
@@ -167,7 +167,7 @@ pub fn track(
     last: &mut Places,
 ) -> usize
     requires { ⌜ KnownWords (now nodes) words × In (now nodes) 0 entry × (0 < entry) ⌝ }
-    ensures { λ r. ⌜ (r ≤ 511) × Grows (rowsOf entry) nodes words 0 places first last r ⌝ }
+    ensures { λ r. ⌜ (r ≤ 511) × Grows (rowsOf entry) nodes words 0 places first last r × ((T : KnownWords (old nodes) words) → 4 * r + entry < treeOf (T .view) .end entry) ⌝ }
 {
     let end = nodes::end(nodes, 0, entry);
     let mut n = 0;
@@ -180,7 +180,7 @@ pub fn track(
 }
 
 // The node that has the name of the row at this place: the place itself, or the node after a Let.
-fn name_at(nodes: &[u8], place: usize) -> usize
+pub fn name_at(nodes: &[u8], place: usize) -> usize
     requires { ⌜ PlaceOf (now nodes) place ⌝ }
     ensures { λ r. ⌜ ((T : PlaceOf (old nodes) place) → r ≡ T .row + 1) ⌝ }
 {

@@ -91,6 +91,16 @@ fn verdicts_differ(case: Case, file: &[u8], at: usize, image: &[u8]) -> usize
     a + b + c
 }
 
+// The linear pass in a table of rows that it is lent.
+fn lent_differs(case: Case, file: &[u8], at: usize, image: &[u8]) -> usize
+    requires { ⌜ at + 36 ≤ length (now file) ⌝ }
+    ensures { λ r. ⌜ r ≤ 1 ⌝ }
+{
+    let recorded = read::verdict_at(file, at + 24, case.refusal);
+    let answer = read::of_verdict(linear_lent::linear_here(image));
+    tell::differs(case.number, b"linear, rows lent", recorded, answer)
+}
+
 // The three questions about one name.
 fn questions_differ(case: Case, file: &[u8], at: usize, image: &[u8], name: &[u8]) -> usize
     requires { ⌜ at + 3 ≤ length (now file) ⌝ }
@@ -165,10 +175,11 @@ fn answers_step(file: &[u8], at: usize, number: usize, image: &[u8]) -> Step
     let a = passes_differ(case, file, at + 1, image);
     let b = verdicts_differ(case, file, at + 1, image);
     let c = lists::differ(case, file, list, count, image);
+    let d = lent_differs(case, file, at + 1, image);
     let step = names_step(case, file, names + 1, read::u8_at(file, names), image);
     Step {
         at: step.at,
-        differ: a + b + c + step.differ,
+        differ: a + b + c + d + step.differ,
         whole: step.whole,
     }
 }

@@ -96,13 +96,18 @@ judged-refused pass s k e =
       case = ap answer.Image d ∙ case-image (refusal s) n (refusal-most s) ∙ sym (ap verdictOf (pass-refused pass s n));
     }
 
+first-part : (p : passes.PassRules) (s : List ℕ) → 9 ≤ p .least → passes.Judges (tree s) p → verdictBy s (p .part (tree s)) ≡ verdictOf (rules.verdict s (p .part (tree s)))
+first-part p s h j = ap (verdictBy s) (sym (j .part)) ∙ first-case s p (offences (tree s)) h ∙ ap (λ (l : List Rec). verdictOf (rules.verdict s l)) (j .part)
+
 judged-by : (p : passes.PassRules) (s : List ℕ) {v : Verdict} → 9 ≤ p .least → refusal s ≡ 0 → passes.Judges (tree s) p → v ≡ verdictBy s (p .part (tree s)) → Judged (p .part) s v
 judged-by p s h e j f = record {
   numbers = ap answerOf f ∙ first-numbers s (p .part (tree s)) ∙ sym (pass-admitted (p .part) s e);
-  case =
-      f ∙ ap (verdictBy s) (sym (j .part)) ∙ first-case s p (offences (tree s)) h ∙ ap (λ (l : List Rec). verdictOf (rules.verdict s l)) (j .part)
-      ∙ sym (ap verdictOf (pass-admitted (p .part) s e));
+  case = f ∙ first-part p s h j ∙ sym (ap verdictOf (pass-admitted (p .part) s e));
 }
+
+-- also where the case is named by the numbers
+pub judged-numbers : (p : passes.PassRules) (s : List ℕ) {v : Verdict} → 9 ≤ p .least → refusal s ≡ 0 → passes.Judges (tree s) p → v ≡ verdictOf (rules.verdict s (p .part (tree s))) → Judged (p .part) s v
+judged-numbers p s h e j f = judged-by p s h e j (f ∙ sym (first-part p s h j))
 
 pub judged-admitted : (p : Pass) (s : List ℕ) {v : Verdict} → refusal s ≡ 0 → v ≡ verdictBy s (recordsOf p (tree s)) → Judged (recordsOf p) s v
 judged-admitted pass.Resolve s e f = judged-by passes.resolving s (omega arith) e (judges-resolve s e) f

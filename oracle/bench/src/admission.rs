@@ -10,7 +10,7 @@ pub const ADMISSION: &str = "\
 |---|---|---|---|---|---|---|---|";
 
 pub fn admission(image: &[u8]) -> u64 {
-    port::refusal(black_box(image)) as u64
+    isonkaypu_sys::refusal(black_box(image)) as u64
 }
 
 /// The sum of all bytes.
@@ -21,7 +21,7 @@ pub fn read(image: &[u8]) -> u64 {
 /// The same image with a name more, before all others, that no node uses; `None` where there is no
 /// room for it.
 pub fn unused_first(image: &[u8]) -> Option<Vec<u8>> {
-    let mut parts = pack::Parts::of(image);
+    let mut parts = generate::Parts::of(image);
     parts.names.insert(0, b"A".to_vec());
     for node in parts.nodes.iter_mut().filter(|node| node.name != 0) {
         node.name += 1;
@@ -46,8 +46,8 @@ pub fn images() -> Vec<(&'static str, Vec<u8>)> {
 
 /// The time is without the test for 8 where that can be told apart, by `unused_first`.
 pub fn row(name: &str, image: &[u8]) -> String {
-    assert_eq!(0, port::refusal(image), "{name}");
-    let header = Header::of(image);
+    assert_eq!(0, isonkaypu_sys::refusal(image), "{name}");
+    let header = Header::of(image).expect("admitted");
     let text = header.total - header.text_offset;
     let unused = unused_first(image);
     let works: [Work; 3] = [

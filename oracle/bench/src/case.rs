@@ -3,7 +3,7 @@
 
 use crate::contracts::Timed;
 use compare::judge;
-use port::Answer;
+use isonkaypu_sys::Answer;
 use quanta_ast::Contract;
 use quanta_typeck::model::Model;
 use reference::{Pass, Verdict};
@@ -19,7 +19,7 @@ impl Case {
     pub fn of(timed: &Timed) -> Case {
         let image = timed.tree.image();
         assert_answers(timed, &image);
-        let contract = pack::contract(&image, pack::Spans::Kept).expect("admitted");
+        let contract = pack::unpack(&image).expect("admitted");
         Case { name: timed.name, nodes: timed.tree.size(), image, contract }
     }
 }
@@ -27,18 +27,18 @@ impl Case {
 /// A pass of the library, called alone.
 pub fn alone(pass: Pass) -> fn(&[u8]) -> Answer {
     match pass {
-        Pass::Resolve => port::resolve,
-        Pass::Access => port::access,
-        Pass::Linear => port::linear,
+        Pass::Resolve => isonkaypu_sys::resolve,
+        Pass::Access => isonkaypu_sys::access,
+        Pass::Linear => isonkaypu_sys::linear,
     }
 }
 
 fn assert_answers(timed: &Timed, image: &[u8]) {
     let judged = reference::judge(image).expect("admitted");
-    let contract = judge::contract(&judged.tree);
+    let contract = judge::contract(image).ok().expect("admitted");
     let model = Model::build(&contract);
-    let together = port::verdicts(image);
-    assert_eq!(0, port::refusal(image), "{}", timed.name);
+    let together = isonkaypu_sys::verdicts(image);
+    assert_eq!(0, isonkaypu_sys::refusal(image), "{}", timed.name);
     for ((pass, code), answer) in Pass::ALL.into_iter().zip(timed.codes).zip(together) {
         let what = format!("{}: {}", timed.name, pass.word());
         let verdict = judged.verdict(pass);

@@ -2,7 +2,7 @@
 //! contracts on which the search for rule 23 has as much to do as the form allows.
 
 use generate::build::*;
-use pack::{Node, ident};
+use generate::{Node, ident};
 use reference::image::MAX_NODES;
 
 pub struct Timed {

@@ -86,5 +86,5 @@ fn rust_passes(contract: &Contract) -> u64 {
 
 /// The same by the library.
 fn port_passes(image: &[u8]) -> u64 {
-    port::verdicts(black_box(image)).map(|answer| u64::from(answer.number == 0)).iter().sum()
+    isonkaypu_sys::verdicts(black_box(image)).map(|answer| u64::from(answer.number == 0)).iter().sum()
 }

@@ -1,7 +1,7 @@
 //! The images that the comparisons run over: those written by hand first, then generated ones.
 
 use generate::patterns::patterns;
-use generate::{Rng, admitted, damaged, limits};
+use generate::{Parts, Rng, admitted, damaged, limits};
 
 /// How many images, and from which seed.
 #[derive(Clone, Copy, Debug)]
@@ -43,7 +43,7 @@ pub fn names_to_ask(image: Option<&[u8]>, rng: &mut Rng) -> Vec<Vec<u8>> {
     let mut names: Vec<Vec<u8>> =
         ["QTOV", "qtov", "QTO", "QTOV0", "", "Q_Asset", "é", "a b"].map(|n| n.as_bytes().to_vec()).to_vec();
     names.push((0..rng.below(6)).map(|_| rng.below(128) as u8).collect());
-    for name in image.map(|i| pack::Parts::of(i).names).unwrap_or_default() {
+    for name in image.map(|i| Parts::of(i).names).unwrap_or_default() {
         names.push(other_case(&name));
         names.push(name[..name.len() - 1].to_vec());
         names.push(name);

@@ -1,29 +1,45 @@
 //! The published Rust as the judge: an image becomes a contract whose spans are places, each pass
 //! is called alone, and an error's message tells the code.
 
-use pack::Spans;
+use crate::mismatch::{Mismatch, differ};
+use generate::Parts;
 use quanta_ast::Contract;
+use quanta_lexer::Span;
 use quanta_typeck::error::TypeError;
 use quanta_typeck::model::Model;
 use quanta_typeck::{access, linear, resolve};
-use reference::tree::Tree;
 use reference::{Pass, Question};
 
-/// The contract of an admitted image as the judge takes it.
-pub fn contract(tree: &Tree) -> Contract {
-    pack::contract_of(tree, Spans::Places)
+/// The contract of an admitted image as the judge takes it: each node's span words are its number.
+pub fn contract(image: &[u8]) -> Result<Contract, Mismatch> {
+    let mut parts = Parts::of(image);
+    for (place, node) in parts.nodes.iter_mut().enumerate() {
+        (node.from, node.to) = (place as u32, place as u32);
+    }
+    unpacked(&parts.image())
 }
 
-/// Code and place of a pass, 0 and 0 where it accepts.
+/// The contract of an admitted image. An image that was admitted and has none is a mismatch.
+pub fn unpacked(image: &[u8]) -> Result<Contract, Mismatch> {
+    pack::unpack(image).ok_or_else(|| differ("the image", "admitted", "the contract of none"))
+}
+
+/// Code and place of a pass on such a contract, 0 and 0 where it accepts.
 pub fn verdict(pass: Pass, model: &Model) -> (u16, u16) {
+    let (code, span) = code_and_span(pass, model);
+    (code, span.start as u16)
+}
+
+/// Code and span of a pass on any contract, zeros where it accepts.
+pub fn code_and_span(pass: Pass, model: &Model) -> (u16, Span) {
     let answer = match pass {
         Pass::Resolve => resolve::check(model),
         Pass::Access => access::check(model),
         Pass::Linear => linear::check(model),
     };
     match answer {
-        Ok(()) => (0, 0),
-        Err(error) => (code(&error), error.span.start as u16),
+        Ok(()) => (0, Span { start: 0, end: 0 }),
+        Err(error) => (code(&error), error.span),
     }
 }
 

@@ -1,14 +1,11 @@
 //! The comparisons: the reference against the published Rust (`rust`), against what document 01
 //! says by hand (`patterns`), against the report program (`report`) and against the proved library
-//! (`port`).
+//! (`port`); and the page's crate against the published Rust (`page`).
 
 pub mod images;
 pub mod judge;
+pub mod page;
 pub mod patterns;
-#[cfg(feature = "port")]
-pub mod port;
-#[cfg(not(feature = "port"))]
-#[path = "unlinked.rs"]
 pub mod port;
 pub mod report;
 pub mod rust;

@@ -1,4 +1,4 @@
-//! `compare rust | patterns | report PATH | port | show FILE`: see `compare` without a word for
+//! `compare rust | patterns | report PATH | port | page | show FILE`: see `compare` without a word for
 //! the options.
 
 use compare::images::Range;
@@ -9,11 +9,13 @@ compare rust [--images N] [--seed S]
     the reference against the published Rust
 compare patterns
     what document 01 says by hand against both
-compare report PATH [--lines image,resolve,access,linear,list,records] [--images N] [--seed S]
-    the reference against the report program at PATH, which prints all lines unless some are named
+compare report PATH [--status] [--images N] [--seed S]
+    the reference against the report program at PATH, and against its exit status where that is asked for
 compare port [--what GROUP,GROUP..] [--images N] [--seed S]
     the reference against the proved library, in all groups or in those named: refusal, questions,
     verdicts, resolve, access, linear, list, resolve_list, access_list, linear_list
+compare page [--images N] [--seed S]
+    the page's crate against the published Rust, on generated contracts
 compare show FILE
     the tree of an image and the reference's report
 ";
@@ -28,14 +30,15 @@ fn run(arguments: &[String]) -> Result<String, String> {
     match words.as_slice() {
         ["rust", options @ ..] => compare::rust::run(range(options, 200_000)?),
         ["patterns"] => compare::patterns::run(),
-        ["report", path, options @ ..] => {
-            let lines = words_of(options, "--lines")?;
-            compare::report::run(path, lines.as_deref(), range(options, 2_000)?)
+        ["report", path, "--status", options @ ..] => {
+            compare::report::run(path, true, range(options, 2_000)?)
         }
+        ["report", path, options @ ..] => compare::report::run(path, false, range(options, 2_000)?),
         ["port", options @ ..] => {
             let what = words_of(options, "--what")?;
             compare::port::run(what.as_deref(), range(options, 200_000)?)
         }
+        ["page", options @ ..] => compare::page::run(range(options, 100_000)?),
         ["show", file] => show(file),
         _ => Err(USAGE.to_string()),
     }
@@ -48,7 +51,7 @@ fn option<'a>(options: &[&'a str], name: &str) -> Result<Option<&'a str>, String
         let [option, value] = pair else {
             return Err(USAGE.to_string());
         };
-        if !["--images", "--seed", "--lines", "--what"].contains(option) {
+        if !["--images", "--seed", "--what"].contains(option) {
             return Err(USAGE.to_string());
         }
         if *option == name {

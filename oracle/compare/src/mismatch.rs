@@ -14,12 +14,17 @@ pub struct Mismatch {
 /// A comparison of one image.
 pub type Check<'a> = dyn Fn(&[u8]) -> Result<(), Mismatch> + 'a;
 
+/// Two answers that are known to differ, in words.
+pub fn differ(what: &str, reference: impl Into<String>, other: impl Into<String>) -> Mismatch {
+    Mismatch { what: what.to_string(), reference: reference.into(), other: other.into() }
+}
+
 /// Compares two answers to one question.
 pub fn same<T: PartialEq + Debug>(what: &str, reference: T, other: T) -> Result<(), Mismatch> {
     if reference == other {
         return Ok(());
     }
-    Err(Mismatch { what: what.to_string(), reference: format!("{reference:?}"), other: format!("{other:?}") })
+    Err(differ(what, format!("{reference:?}"), format!("{other:?}")))
 }
 
 /// The text for a mismatch on an image: the image made small, its tree, and both answers.

@@ -48,7 +48,7 @@ fn pattern_holds(pattern: &Pattern) -> Result<(), Mismatch> {
         Err(refusal) => return same("the refusal", 0, refusal),
     };
     same("the reference's list", expected.clone(), judged.list())?;
-    let contract = judge::contract(&judged.tree);
+    let contract = judge::contract(&image)?;
     let model = Model::build(&contract);
     for pass in Pass::ALL {
         let first = expected.iter().find(|r| pass_of(r) == pass);

@@ -1,47 +1,45 @@
-//! `compare report`: the reference's report against all that the program prints. Of a program that
-//! prints only some lines these can be named, and the reference's report is cut to them.
+//! `compare report`: the reference's report against all that the program prints and, where that is
+//! asked for, against the status that it ends with.
 
 use crate::images::{Range, all_classes};
 use crate::mismatch::{Mismatch, same, shown};
 use std::io::{ErrorKind, Write};
 use std::process::{Command, Stdio};
 
-/// The lines of a report by their first word; a record's line begins with a number.
-const LINES: [&str; 6] = ["image", "resolve", "access", "linear", "list", "records"];
+/// Of the images, each how many is given to a program whose exit status is asked for: `./report`
+/// sees to its proofs each time that it is run.
+const STEP: usize = 8;
 
-/// Runs the program at `path` once for each image; it prints all lines unless some are named.
-pub fn run(path: &str, lines: Option<&[&str]>, range: Range) -> Result<String, String> {
-    let lines = lines.unwrap_or(&LINES);
-    if let Some(unknown) = lines.iter().find(|l| !LINES.contains(l)) {
-        return Err(format!("no report line is called {unknown}; they are {LINES:?}\n"));
-    }
-    let check = |image: &[u8]| agree(path, lines, image);
+/// Runs the program at `path` once for each image, and holds its exit status to the report's too if
+/// `status` says so.
+pub fn run(path: &str, status: bool, range: Range) -> Result<String, String> {
+    let check = |image: &[u8]| agree(path, status, image);
     let mut count = 0;
-    for (label, image) in all_classes(range) {
+    for (label, image) in all_classes(range).step_by(if status { STEP } else { 1 }) {
         check(&image).map_err(|_| shown(&label, &image, &check))?;
         count += 1;
     }
-    Ok(format!("{count} reports, lines {}: no mismatch\n", lines.join(", ")))
+    let what = if status { "reports with their exit status" } else { "reports" };
+    Ok(format!("{count} {what}: no mismatch\n"))
 }
 
-fn agree(path: &str, lines: &[&str], image: &[u8]) -> Result<(), Mismatch> {
-    let expected = cut(&reference::report(image), lines);
-    same("the report", Ok(expected), printed(path, image))
-}
-
-/// The lines of a report that are asked for.
-fn cut(report: &str, lines: &[&str]) -> String {
-    let asked_for = |line: &&str| {
-        let first = line.split(' ').next().unwrap_or("");
-        let word = if LINES.contains(&first) { first } else { "records" };
-        lines.contains(&word)
+fn agree(path: &str, status: bool, image: &[u8]) -> Result<(), Mismatch> {
+    let (text, ended) = match printed(path, image) {
+        Ok((text, ended)) => (Ok(text), ended),
+        Err(error) => (Err(error), None),
     };
-    report.lines().filter(asked_for).map(|line| format!("{line}\n")).collect()
+    same("the report", Ok(reference::report(image)), text)?;
+    if status { same("the exit status", Some(status_of(image)), ended) } else { Ok(()) }
 }
 
-/// What the program prints when it is given the image. That it ends in any way of its own is fine;
-/// the page says nothing of exit codes.
-fn printed(path: &str, image: &[u8]) -> Result<String, String> {
+/// 0 accepted, 1 offences, 2 no image.
+fn status_of(image: &[u8]) -> i32 {
+    reference::judge(image).map_or(2, |judged| i32::from(!judged.list().is_empty()))
+}
+
+/// What the program prints when it is given the image, and the status that it ends with; one that is
+/// killed has none, and that is an error.
+fn printed(path: &str, image: &[u8]) -> Result<(String, Option<i32>), String> {
     let failed = |e: std::io::Error| format!("{path}: {e}");
     let mut child =
         Command::new(path).stdin(Stdio::piped()).stdout(Stdio::piped()).spawn().map_err(failed)?;
@@ -56,5 +54,6 @@ fn printed(path: &str, image: &[u8]) -> Result<String, String> {
     if output.status.code().is_none() {
         return Err(format!("{path}: {}", output.status));
     }
-    String::from_utf8(output.stdout).map_err(|e| format!("{path}: {e}"))
+    let text = String::from_utf8(output.stdout).map_err(|e| format!("{path}: {e}"))?;
+    Ok((text, output.status.code()))
 }

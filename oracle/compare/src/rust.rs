@@ -6,7 +6,6 @@ use crate::judge;
 use crate::mismatch::{Mismatch, same, shown};
 use crate::tally::Tally;
 use generate::Rng;
-use pack::Spans;
 use quanta_typeck::model::Model;
 use reference::{Judged, Pass, Question};
 
@@ -24,12 +23,7 @@ pub fn run(range: Range) -> Result<String, String> {
             compare_one(&label, &damaged_image(range.seed, index), &mut tally)?;
         }
     }
-    let few = tally.too_few();
-    if few.is_empty() {
-        Ok(format!("{}no mismatch\n", tally.table()))
-    } else {
-        Err(format!("{}too few:\n{}\n", tally.table(), few.join("\n")))
-    }
+    tally.finish()
 }
 
 fn compare_one(label: &str, image: &[u8], tally: &mut Tally) -> Result<(), String> {
@@ -40,7 +34,8 @@ fn compare_one(label: &str, image: &[u8], tally: &mut Tally) -> Result<(), Strin
             return Ok(());
         }
     };
-    tally.admitted(&judged);
+    let listed: Vec<u16> = judged.list().iter().map(|record| record.code).collect();
+    tally.admitted(Pass::ALL.map(|pass| judged.verdict(pass).code), &listed);
     agree(image, &judged).map_err(|_| shown(label, image, &agree_on))
 }
 
@@ -54,7 +49,7 @@ pub fn agree_on(image: &[u8]) -> Result<(), Mismatch> {
 
 /// Verdict and place of each pass, the questions, and that the image comes back from its contract.
 fn agree(image: &[u8], judged: &Judged) -> Result<(), Mismatch> {
-    let contract = judge::contract(&judged.tree);
+    let contract = judge::contract(image)?;
     let model = Model::build(&contract);
     for pass in Pass::ALL {
         let verdict = judged.verdict(pass);
@@ -62,7 +57,7 @@ fn agree(image: &[u8], judged: &Judged) -> Result<(), Mismatch> {
         same(&what, (verdict.code, verdict.place), judge::verdict(pass, &model))?;
     }
     questions_agree(image, judged, &model)?;
-    comes_back(image, judged)
+    comes_back(image)
 }
 
 fn questions_agree(image: &[u8], judged: &Judged, model: &Model) -> Result<(), Mismatch> {
@@ -82,7 +77,7 @@ fn questions_agree(image: &[u8], judged: &Judged, model: &Model) -> Result<(), M
 
 /// The AST can only hold what the table of children allows, so an image that is admitted must come
 /// back from its contract byte for byte.
-fn comes_back(image: &[u8], judged: &Judged) -> Result<(), Mismatch> {
-    let again = pack::pack(&pack::contract_of(&judged.tree, Spans::Kept));
+fn comes_back(image: &[u8]) -> Result<(), Mismatch> {
+    let again = pack::pack(&judge::unpacked(image)?);
     same("the image packed again is the image", true, again.as_deref() == Ok(image))
 }

@@ -1,7 +1,7 @@
 //! Makes an image that shows a mismatch small: subtrees are taken out, expressions and types give
 //! way to what they hold, names become short, as long as the mismatch stays.
 
-use pack::Node;
+use generate::Node;
 use reference::admit;
 
 /// The smallest image that this finds on which `shows` still holds. Bytes that are not admitted

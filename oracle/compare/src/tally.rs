@@ -3,7 +3,7 @@
 //! rule at work has compared nothing, so too few of anything is a failure.
 
 use generate::CODES;
-use reference::{Judged, Pass};
+use reference::Pass;
 use std::fmt::Write;
 
 #[derive(Default)]
@@ -27,23 +27,34 @@ impl Tally {
         self.refusals[refusal as usize] += 1;
     }
 
-    pub fn admitted(&mut self, judged: &Judged) {
+    /// An image that was admitted: the code of each pass's verdict, and all codes of the list.
+    pub fn admitted(&mut self, verdicts: [u16; 3], listed: &[u16]) {
         self.admitted += 1;
-        self.longest = self.longest.max(judged.list().len());
-        for pass in Pass::ALL {
-            match judged.verdict(pass).code {
-                0 => self.accepted[pass as usize] += 1,
-                code => self.first[code as usize] += 1,
+        self.longest = self.longest.max(listed.len());
+        for (pass, code) in verdicts.into_iter().enumerate() {
+            match code {
+                0 => self.accepted[pass] += 1,
+                code => self.first[usize::from(code)] += 1,
             }
-            for record in judged.part(pass) {
-                self.listed[record.code as usize] += 1;
-            }
+        }
+        for code in listed {
+            self.listed[usize::from(*code)] += 1;
+        }
+    }
+
+    /// What a comparison that met no mismatch has to print: the table, or what came too seldom.
+    pub fn finish(&self) -> Result<String, String> {
+        let few = self.too_few();
+        if few.is_empty() {
+            Ok(format!("{}no mismatch\n", self.table()))
+        } else {
+            Err(format!("{}too few:\n{}\n", self.table(), few.join("\n")))
         }
     }
 
     /// What came too seldom: a code as the first of its pass under once in 500 admitted images,
     /// an acceptance under once in 10, a refusal under once in 200 refused images.
-    pub fn too_few(&self) -> Vec<String> {
+    fn too_few(&self) -> Vec<String> {
         let mut few = Vec::new();
         let mut want = |what: String, count: u64, least: u64| {
             if count < least.max(1) {
@@ -65,7 +76,7 @@ impl Tally {
     }
 
     /// The table that is printed.
-    pub fn table(&self) -> String {
+    fn table(&self) -> String {
         let mut out = String::new();
         let mut line = |text: String| writeln!(out, "{text}").expect("a String takes any text");
         line(format!("admitted {}, refused {}", self.admitted, self.refused));

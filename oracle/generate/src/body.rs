@@ -4,7 +4,7 @@ use crate::build::*;
 use crate::expression::Use;
 use crate::maker::{Maker, Site};
 use crate::words::*;
-use pack::{Node, ident};
+use crate::{Node, ident};
 
 impl Maker<'_> {
     pub fn statements(&mut self) -> Vec<Node> {

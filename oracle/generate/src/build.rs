@@ -1,7 +1,7 @@
 //! Document 01's table of children as functions, so that a contract can be written down much as
 //! its source would be.
 
-use pack::{Node, ident, leaf, name, node, number};
+use crate::{Node, ident, leaf, name, node, number};
 use reference::kind;
 
 /// A Name, and then more.

@@ -2,8 +2,8 @@
 //! unused or twice, wrong ends, spare bytes that are not zero, wrong kinds, and several at once.
 //! Some damage does no harm; what an image is then is for the reference to say.
 
+use crate::Parts;
 use crate::rng::Rng;
-use pack::Parts;
 use reference::image::{HEADER, NODE, RawNode};
 use reference::kind;
 

@@ -3,7 +3,7 @@
 use crate::build::*;
 use crate::maker::{Maker, Site};
 use crate::words::*;
-use pack::{Node, ident, leaf, node};
+use crate::{Node, ident, leaf, node};
 use reference::kind;
 
 /// What the linear pass makes of an Ident in this position.

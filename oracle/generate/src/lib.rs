@@ -1,6 +1,6 @@
 //! Images to compare by, all from a seed: admitted ones (`admitted`), the limits of document 01 on
 //! both sides (`limits`), damaged ones (`damaged`), and contracts written by hand with what the
-//! page says of them (`patterns`).
+//! page says of them (`patterns`). What an image does not carry is put into a contract by `fill`.
 
 pub mod build;
 pub mod patterns;
@@ -9,22 +9,27 @@ pub mod words;
 mod body;
 mod damage;
 mod expression;
+mod fill;
 mod limits;
 mod maker;
+mod node;
+mod parts;
 mod rng;
 mod samples;
 mod taste;
 mod wild;
 
 pub use damage::damaged;
+pub use fill::fill;
 pub use limits::{Limit, largest, limits};
+pub use node::{Node, ident, leaf, name, node, number};
+pub use parts::Parts;
 pub use rng::Rng;
 pub use samples::ward;
 pub use taste::CODES;
 
+use form::image::{MAX_ANCESTORS, MAX_NAMES, MAX_NODES, MAX_TEXT};
 use maker::Maker;
-use pack::Node;
-use reference::image::{MAX_ANCESTORS, MAX_NAMES, MAX_NODES, MAX_TEXT};
 use wild::Wild;
 
 /// An image that is admitted.

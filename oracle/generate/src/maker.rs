@@ -5,7 +5,7 @@ use crate::build::*;
 use crate::rng::Rng;
 use crate::taste::Taste;
 use crate::words::*;
-use pack::{Node, leaf, name, node, number};
+use crate::{Node, leaf, name, node, number};
 use reference::kind;
 
 /// A parameter or a field: its name and whether it is of type `Q_Address`.

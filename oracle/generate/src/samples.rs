@@ -2,13 +2,24 @@
 //! sent twice, a field written without being declared, and an event that nobody declares.
 
 use crate::build::*;
-use pack::{Node, ident, name, node};
+use crate::{Node, ident, name, node};
+use form::image::RawNode;
 use reference::kind;
 
-/// The ward-stock contract. The two span words of a node are its line and its column.
+/// What the contract's text is; the spans of the image are byte offsets into it.
+pub const WARD: &str = include_str!("../../../samples/ward.quanta");
+
+/// The ward-stock contract. The tree is built by hand; its places are those of the text's own tree,
+/// which is the same node for node.
 pub fn ward() -> Node {
     let mut tree = contract("WardStock", items());
-    number_lines(&mut tree, &mut (0, 0), 0);
+    let image = example::image(WARD);
+    let mut places = (0..).map_while(|i| RawNode::of(&image, i));
+    tree.for_each_mut(&mut |node| {
+        if let Some(place) = places.next() {
+            (node.from, node.to) = (place.from, place.to);
+        }
+    });
     tree
 }
 
@@ -76,23 +87,13 @@ fn destroy() -> Node {
     )
 }
 
-/// Items, fields, clauses and statements begin a line, set in by their depth; what stands in them
-/// goes on along it.
-fn number_lines(node: &mut Node, at: &mut (u32, u32), depth: u32) {
-    if begins_a_line(node.kind) {
-        *at = (at.0 + 1, 1 + 4 * depth);
-    }
-    (node.from, node.to) = *at;
-    at.1 += node.text.as_ref().map_or(1, |text| text.len() as u32 + 1);
-    for child in &mut node.children {
-        number_lines(child, at, depth + 1);
-    }
-}
+#[cfg(test)]
+mod tests {
+    use super::{WARD, ward};
 
-fn begins_a_line(kind: u8) -> bool {
-    kind == kind::CONTRACT
-        || kind == kind::FIELD_DECL
-        || kind::is_item(kind)
-        || kind::is_clause(kind)
-        || kind::is_statement(kind)
+    /// The text and the tree that was built by hand say the same.
+    #[test]
+    fn the_text_is_the_tree() {
+        assert_eq!(example::image(WARD), ward().image());
+    }
 }

@@ -4,7 +4,7 @@
 use crate::build::*;
 use crate::rng::Rng;
 use crate::words::*;
-use pack::{Node, ident, leaf, name, node, number};
+use crate::{Node, ident, leaf, name, node, number};
 use reference::kind;
 
 pub struct Wild<'r> {

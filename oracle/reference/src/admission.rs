@@ -16,7 +16,7 @@ pub fn refusal(image: &[u8]) -> u8 {
 pub fn admit(image: &[u8]) -> Result<Tree<'_>, u8> {
     // 1: length under 24 or over 51,226
     refuse_unless(1, image.len() >= HEADER && image.len() <= MAX_LENGTH)?;
-    let header = Header::of(image);
+    let header = Header::of(image).ok_or(1)?;
     // 2: version not 1, or header zero not 0
     refuse_unless(2, header.version == 1 && header.zero == 0)?;
     // 3: N is 0 or over 2,048, or M over 1,024
@@ -67,8 +67,8 @@ fn text_offsets_fit(image: &[u8], header: &Header) -> bool {
 
 /// The M+1 text offsets.
 fn text_offsets(image: &[u8], header: &Header) -> Vec<usize> {
-    let at = |k| u16_at(image, header.name_offset + 2 * k) as usize;
-    (0..=header.names).map(at).collect()
+    let at = |k| u16_at(image, header.name_offset + 2 * k).map(usize::from);
+    (0..=header.names).filter_map(at).collect()
 }
 
 /// The names in the order of the table; name number k is the one at k - 1.
@@ -102,7 +102,7 @@ fn is_name_byte(byte: u8) -> bool {
 }
 
 fn nodes(image: &[u8], header: &Header) -> Vec<RawNode> {
-    (0..header.nodes).map(|i| RawNode::of(image, i)).collect()
+    (0..header.nodes).filter_map(|i| RawNode::of(image, i)).collect()
 }
 
 /// "Node 0 is the contract and ends at N", and every node is as the table says.

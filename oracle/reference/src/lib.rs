@@ -8,7 +8,6 @@
 
 pub mod admission;
 pub mod image;
-pub mod kind;
 pub mod tree;
 
 mod access;
@@ -20,6 +19,7 @@ mod resolve;
 mod signature;
 
 pub use admission::{admit, refusal};
+pub use form::kind;
 pub use model::Model;
 pub use record::Record;
 pub use report::report;

@@ -33,7 +33,7 @@ pub fn full(asked: &Asked) -> Result<(), Mismatch> {
         } else {
             ((asked.refusal(), words.len() / 3), &words[..])
         };
-        agree(&what, port::list, asked.image, length, answer, written)?;
+        agree(&what, isonkaypu_sys::list, asked.image, length, answer, written)?;
     }
     Ok(())
 }

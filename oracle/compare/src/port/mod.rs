@@ -6,7 +6,7 @@ mod questions;
 
 use crate::images::{Range, all_classes};
 use crate::mismatch::{Mismatch, same, shown};
-use port::Answer;
+use isonkaypu_sys::Answer;
 use reference::{Judged, Pass};
 
 /// An image, and what the reference makes of it.
@@ -22,13 +22,13 @@ const GROUPS: [Group; 10] = [
     ("refusal", refusal),
     ("questions", questions::questions),
     ("verdicts", verdicts),
-    ("resolve", |asked| verdict(asked, Pass::Resolve, port::resolve)),
-    ("access", |asked| verdict(asked, Pass::Access, port::access)),
-    ("linear", |asked| verdict(asked, Pass::Linear, port::linear)),
+    ("resolve", |asked| verdict(asked, Pass::Resolve, isonkaypu_sys::resolve)),
+    ("access", |asked| verdict(asked, Pass::Access, isonkaypu_sys::access)),
+    ("linear", |asked| verdict(asked, Pass::Linear, isonkaypu_sys::linear)),
     ("list", lists::full),
-    ("resolve_list", |asked| lists::part(asked, Pass::Resolve, port::resolve_list)),
-    ("access_list", |asked| lists::part(asked, Pass::Access, port::access_list)),
-    ("linear_list", |asked| lists::part(asked, Pass::Linear, port::linear_list)),
+    ("resolve_list", |asked| lists::part(asked, Pass::Resolve, isonkaypu_sys::resolve_list)),
+    ("access_list", |asked| lists::part(asked, Pass::Access, isonkaypu_sys::access_list)),
+    ("linear_list", |asked| lists::part(asked, Pass::Linear, isonkaypu_sys::linear_list)),
 ];
 
 /// Compares the groups asked for, or all of them.
@@ -86,7 +86,7 @@ impl Asked<'_> {
 }
 
 fn refusal(asked: &Asked) -> Result<(), Mismatch> {
-    same("refusal", asked.refusal(), port::refusal(asked.image))
+    same("refusal", asked.refusal(), isonkaypu_sys::refusal(asked.image))
 }
 
 fn verdict(asked: &Asked, pass: Pass, given: fn(&[u8]) -> Answer) -> Result<(), Mismatch> {
@@ -94,5 +94,5 @@ fn verdict(asked: &Asked, pass: Pass, given: fn(&[u8]) -> Answer) -> Result<(), 
 }
 
 fn verdicts(asked: &Asked) -> Result<(), Mismatch> {
-    same("verdicts", Pass::ALL.map(|pass| asked.answer(pass)), port::verdicts(asked.image))
+    same("verdicts", Pass::ALL.map(|pass| asked.answer(pass)), isonkaypu_sys::verdicts(asked.image))
 }

@@ -33,9 +33,9 @@ fn names(asked: &Asked) -> Vec<Vec<u8>> {
 
 fn agree(question: Question, asked: &Asked, name: &[u8], yes: bool) -> Result<(), Mismatch> {
     let ask = match question {
-        Question::IsState => port::is_state,
-        Question::IsDeclaredAsset => port::is_declared_asset,
-        Question::IsKnownAsset => port::is_known_asset,
+        Question::IsState => isonkaypu_sys::is_state,
+        Question::IsDeclaredAsset => isonkaypu_sys::is_declared_asset,
+        Question::IsKnownAsset => isonkaypu_sys::is_known_asset,
     };
     let what = || format!("{question:?} of {:?}", String::from_utf8_lossy(name));
     let expected = (asked.refusal(), u8::from(yes));

@@ -6,7 +6,7 @@ mod names;
 mod tree;
 
 use crate::build::*;
-use pack::{Node, Parts, ident, name, node, number};
+use crate::{Node, Parts, ident, name, node, number};
 use reference::kind;
 
 pub struct Limit {

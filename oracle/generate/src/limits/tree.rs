@@ -1,7 +1,7 @@
 //! Refusals 6 to 8: the tree, its depth, and names that it does not use.
 
 use super::*;
-use pack::leaf;
+use crate::leaf;
 use reference::image::RawNode;
 
 pub fn all() -> Vec<Limit> {

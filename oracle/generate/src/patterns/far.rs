@@ -3,7 +3,7 @@
 //! rest stands behind it.
 
 use super::*;
-use pack::ident;
+use crate::ident;
 
 pub fn all() -> Vec<Pattern> {
     reported().into_iter().map(|(pattern, _)| pattern).collect()

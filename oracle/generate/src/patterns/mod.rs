@@ -17,7 +17,7 @@ pub use far::reported;
 pub use page::p2;
 
 use crate::build::*;
-use pack::{Node, name, node};
+use crate::{Node, name, node};
 use reference::{Record, kind};
 
 pub struct Pattern {

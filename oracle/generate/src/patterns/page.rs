@@ -1,7 +1,7 @@
 //! Document 01, "Patterns we check by hand": P1 to P14.
 
 use super::*;
-use pack::ident;
+use crate::ident;
 
 pub fn all() -> Vec<Pattern> {
     [p1_to_p7(), p8_and_p9(), p10_and_p11(), p12_to_p14()].into_iter().flatten().collect()

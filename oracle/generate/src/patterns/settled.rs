@@ -1,7 +1,7 @@
 //! docs/RULES.md, "Readings that document 01 leaves open", and what else only a full list shows.
 
 use super::*;
-use pack::{ident, leaf, number};
+use crate::{ident, leaf, number};
 
 pub fn all() -> Vec<Pattern> {
     let groups = [

@@ -3,7 +3,7 @@
 //! an Event or an Entry, and each of these has one.
 
 use super::*;
-use pack::ident;
+use crate::ident;
 
 pub fn all() -> Vec<Pattern> {
     let groups = [

@@ -1,7 +1,7 @@
 //! Document 01, "Tempting and wrong".
 
 use super::*;
-use pack::ident;
+use crate::ident;
 
 pub fn all() -> Vec<Pattern> {
     [roots(), uses(), genesis_lets(), peeled_callees()].into_iter().flatten().collect()

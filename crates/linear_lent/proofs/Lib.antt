@@ -1,0 +1,4 @@
+pub mod Steps
+pub mod Answers
+pub mod Judged
+pub mod Determined

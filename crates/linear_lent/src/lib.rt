@@ -1,0 +1,235 @@
+// The linear pass in a table of rows that it is lent ("a table of tracked rows that the linear pass is lent" of document 01): the rows of a contract are stored there, then each is judged where it stands, and blanked.
+// Two functions hold the rows, and a third lends its own; their proofs are walks by hand; they call functions with plain parameters for all else.
+use image::Admission;
+use image::Image;
+use linear_table::ALIAS;
+use linear_table::REFUSED;
+use linear_table::Row;
+use typeck::Verdict;
+ghost use mathlib.Core.Path.{_≡_};
+ghost use Prim.Native.Nat.{_<_, _≤_};
+ghost use lib.ListN.{length, replicate};
+ghost use Rattle.image.specs.Admit.{refusal};
+ghost use Rattle.rules.specs.Linear.{linear};
+ghost use Rattle.records.specs.Words.{old, new};
+ghost use Rattle.typeck.specs.Face.{Judged, verdictOf};
+ghost use Rattle.linear_table.specs.Table.{rowIn, noRow};
+ghost use Rattle.linear_lent.specs.declared.Found.{Found};
+ghost use Rattle.linear_lent.specs.Lent.{JudgedIn, foundAt, judgeRow, rowBefore, nextOf, stepOf, stateOf, startOf, ran, answered};
+
+// What was found, in document 01's numbers: 0 nothing, 1 to 8 the image's refusal, else a code with its place.
+pub struct Found {
+    pub number: u16,
+    pub place: u16,
+}
+
+// The row that the next step takes, how many steps are left, and what was found.
+pub struct State {
+    pub at: usize,
+    pub left: usize,
+    pub found: Found,
+}
+
+// What a step gives: the row to store, and the state.
+pub struct Turn {
+    pub row: Row,
+    pub state: State,
+}
+
+fn wide(x: u16) -> usize
+    ensures { λ r. ⌜ (r ≡ x) × (r < 65536) ⌝ }
+{
+    x as usize
+}
+
+// The state before the first step.
+fn state_of(left: usize, number: u16, place: u16) -> State
+    ensures { λ r. ⌜ r ≡ stateOf left (foundAt number place) ⌝ }
+{
+    let found = Found { number, place };
+    State {
+        at: 510,
+        left,
+        found,
+    }
+}
+
+// Where the steps start: a refused image has none; else there are two for each row, from the last to the first, and the first 60 is found behind all rows.
+fn start(cells: &[u16]) -> State
+    requires { ⌜ length (now cells) ≡ 2046 ⌝ }
+    ensures { λ r. ⌜ r ≡ startOf (old cells) ⌝ }
+{
+    let refused = cells[REFUSED];
+    if refused != 0 {
+        return state_of(0, refused, 0);
+    }
+    let alias = cells[ALIAS];
+    if alias == 0 {
+        return state_of(1022, 0, 0);
+    }
+    state_of(1022, 60, alias)
+}
+
+// A row of the cells.
+fn row_in(cells: &[u16], i: usize) -> Row
+    requires { ⌜ (length (now cells) ≡ 2046) × (i < 511) ⌝ }
+    ensures { λ r. ⌜ r ≡ rowIn (old cells) i ⌝ }
+{
+    Row {
+        name: cells[4 * i],
+        place: cells[4 * i + 1],
+        marks: cells[4 * i + 2],
+        count: cells[4 * i + 3],
+    }
+}
+
+// 61 or 62 at a row, or what was found behind it. A blank row has place 0.
+fn judge_row(row: Row, found: Found) -> Found
+    ensures { λ r. ⌜ r ≡ judgeRow row found ⌝ }
+{
+    let place = row.place;
+    if place == 0 {
+        return found;
+    }
+    let times = wide(row.marks) + wide(row.count);
+    if times == 0 {
+        return Found { number: 61, place };
+    }
+    if 1 < times {
+        return Found { number: 62, place };
+    }
+    found
+}
+
+// The row that the step behind one on row `at` takes: the one before it, or the last one again.
+fn row_before(at: usize) -> usize
+    ensures { λ r. ⌜ r ≡ rowBefore at ⌝ }
+{
+    if at == 0 {
+        return 510;
+    }
+    at - 1
+}
+
+// The state behind a step.
+fn next(c: State, found: Found) -> State
+    requires { ⌜ 0 < c .left ⌝ }
+    ensures { λ r. ⌜ r ≡ nextOf c found ⌝ }
+{
+    let at = row_before(c.at);
+    State {
+        at,
+        left: c.left - 1,
+        found,
+    }
+}
+
+// A row of noughts.
+fn blank_row() -> Row
+    ensures { λ r. ⌜ r ≡ noRow ⌝ }
+{
+    Row {
+        name: 0,
+        place: 0,
+        marks: 0,
+        count: 0,
+    }
+}
+
+// One step: a row is stored, or the one that stands there is judged and blanked.
+fn advance(cells: &[u16], c: State, row: Row) -> Turn
+    requires { ⌜ (0 < c .left) × (c .at < 511) × (length (now cells) ≡ 2046) ⌝ }
+    ensures { λ t. ⌜ t ≡ stepOf (old cells) c row ⌝ }
+{
+    let found = c.found;
+    if 512 <= c.left {
+        let row = row_in(cells, c.at);
+        let state = next(c, found);
+        return Turn { row, state };
+    }
+    let state = next(c, judge_row(row, found));
+    let cleared = blank_row();
+    Turn {
+        row: cleared,
+        state,
+    }
+}
+
+// The steps, one after the other, in the rows that are lent. Proved by hand.
+fn drive(cells: &[u16], rows: &mut [Row]) -> State
+    requires { ⌜ (length (now cells) ≡ 2046) × (length (now rows) ≡ 511) ⌝ }
+    ensures { λ r. ⌜ (r ≡ ran (old cells) (old rows) .0) × (new rows ≡ ran (old cells) (old rows) .1) ⌝ }
+{
+    let mut c = start(cells);
+    while 0 < c.left {
+        let i = c.at;
+        let t = advance(cells, c, rows[i]);
+        rows[i] = t.row;
+        c = t.state;
+    }
+    c
+}
+
+// The verdict that was found.
+fn answer(image: &[u8], c: State) -> Verdict
+    requires { ⌜ (9 ≤ c .found .number → refusal (now image) ≡ 0) ⌝ }
+    ensures { λ r. ⌜ r ≡ verdictOf (answered (old image) (c .found)) ⌝ }
+{
+    let found = c.found;
+    let number = found.number;
+    let place = found.place;
+    if number == 0 {
+        return Verdict::Accepted;
+    }
+    if number < 9 {
+        return Verdict::Image(wide(number));
+    }
+    refused_at(image, number, place)
+}
+
+// A code and its place, with the span words of the place.
+fn refused_at(image: &[u8], code: u16, place: u16) -> Verdict
+    requires { ⌜ (9 ≤ code) × (refusal (now image) ≡ 0) ⌝ }
+    ensures { λ r. ⌜ ((f : Found) → f .number ≡ code → f .place ≡ place → r ≡ verdictOf (answered (old image) f)) ⌝ }
+{
+    match Image::read(image) {
+        Admission::Refused(number) => Verdict::Image(number),
+        Admission::Admitted(head) => {
+            let span = spans::of_place(image, head, wide(place));
+            let from = span.from;
+            let to = span.to;
+            Verdict::Refused {
+                code,
+                place,
+                from: from as u32,
+                to: to as u32,
+            }
+        }
+    }
+}
+
+// The verdict of the linear pass, by the rows that are lent. They are as they were where the image is refused, and blank otherwise. Proved by hand.
+pub fn linear(image: &[u8], rows: &mut [Row]) -> Verdict
+    requires { ⌜ length (now rows) ≡ 511 ⌝ }
+    ensures { λ r. ⌜ JudgedIn (old image) (old rows) r (new rows) ⌝ }
+{
+    let cells = linear_table::table_of(image);
+    let c = drive(&cells, rows);
+    answer(image, c)
+}
+
+// A table of blank rows.
+fn blank() -> [Row; 511]
+    ensures { λ r. ⌜ r ≡ replicate 511 noRow ⌝ }
+{
+    let row = blank_row();
+    [row; 511]
+}
+
+// The same, lent a table of this function's own: its parameters are plain, so whoever calls it is covered. Proved by hand.
+pub fn linear_here(image: &[u8]) -> Verdict
+    ensures { λ r. ⌜ Judged linear (old image) r ⌝ }
+{
+    let mut rows = blank();
+    linear(image, &mut rows)
+}

@@ -1,0 +1,7 @@
+pub mod Held
+pub mod Sixty
+pub mod Rows
+pub mod Walk
+pub mod Item
+pub mod Cutting
+pub mod Made

@@ -1,0 +1,70 @@
+//! One offence, as the list has it, with the name of the contract that it is about.
+
+use crate::name::name_of;
+use form::Tree;
+use std::fmt;
+
+/// Two span words as the image carries them: byte offsets into the source, of the first byte and of
+/// the one past the last. Nobody judges them: they may lie outside of the source, or the other way
+/// round.
+#[derive(Clone, Copy, Debug, PartialEq, Eq, Hash)]
+pub struct Span {
+    pub from: u32,
+    pub to: u32,
+}
+
+/// A node of the image and where it stands in the source.
+#[derive(Clone, Copy, Debug, PartialEq, Eq, Hash)]
+pub struct Place {
+    /// The node's number in the image's tree.
+    pub node: usize,
+    pub span: Span,
+}
+
+impl Place {
+    /// The place of a node, where the tree has it.
+    pub(crate) fn of(tree: &Tree, node: usize) -> Option<Place> {
+        tree.nodes.get(node).map(|found| Place { node, span: Span { from: found.from, to: found.to } })
+    }
+}
+
+/// An offence against one of document 01's rules.
+#[derive(Clone, Debug, PartialEq, Eq)]
+pub struct Offence {
+    /// Document 01's code, 20 to 62.
+    pub code: u16,
+    /// Where it stands.
+    pub place: Place,
+    /// The name in the contract that it is about, where there is one: of a Name or an Ident its own
+    /// text, of a Let or an Emit its name, of an Assign the name that is assigned to, of a Call the
+    /// function or method, and for 51 the name whose method it is.
+    pub name: Option<String>,
+    /// The other place that the rule speaks of: the first declaration of a name that is declared
+    /// again, the second use of a lot.
+    pub related: Option<Place>,
+}
+
+impl Offence {
+    /// The offence of a record (code, place, related), where its code is one and its places are nodes.
+    pub(crate) fn of(tree: &Tree, [code, place, related]: [u16; 3]) -> Option<Offence> {
+        crate::Pass::of_code(code)?;
+        let place = Place::of(tree, usize::from(place))?;
+        let related = match related {
+            0 => None,
+            node => Some(Place::of(tree, usize::from(node))?),
+        };
+        Some(Offence { code, place, name: name_of(tree, code, place.node), related })
+    }
+}
+
+/// The code, the name and the span: enough to find it. What it means is said by `words`.
+impl fmt::Display for Offence {
+    fn fmt(&self, f: &mut fmt::Formatter<'_>) -> fmt::Result {
+        let Span { from, to } = self.place.span;
+        write!(f, "[{}]", self.code)?;
+        if let Some(name) = &self.name {
+            write!(f, " `{name}`")?;
+        }
+        write!(f, " at bytes {from} to {to}")
+    }
+}

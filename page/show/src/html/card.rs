@@ -1,0 +1,123 @@
+//! The cards: for each fault what it is, why it matters, how to mend it and where it is.
+
+use super::excerpt::excerpt;
+use super::prose;
+use super::view::{Group, Item, View};
+use crate::region::Region;
+use crate::{Mark, about, escape};
+use words::Entry;
+
+/// All cards, by entry; nothing where there is no fault.
+pub fn section(view: &View) -> String {
+    if view.groups.is_empty() {
+        return String::new();
+    }
+    let groups: String = view.groups.iter().enumerate().map(|(i, one)| group(view, i + 1, one)).collect();
+    format!(
+        "<section aria-labelledby=\"faults\"><h2 id=\"faults\">The faults, entry by entry</h2>\n{}{groups}</section>\n",
+        contents(view)
+    )
+}
+
+/// Where to find which entry's faults, where there is more than one.
+fn contents(view: &View) -> String {
+    let row = |(i, group): (usize, &Group)| {
+        let count = prose::faults(group.items.len());
+        let place = place_of(group).map_or(String::new(), |place| format!(", {place}"));
+        format!("<li><a href=\"#group-{}\">{}</a>{place}: {count}</li>", i + 1, title(group))
+    };
+    let rows: String = view.groups.iter().enumerate().map(row).collect();
+    match view.groups.len() {
+        0 | 1 => String::new(),
+        _ => format!("<nav aria-label=\"Faults by entry\"><ul class=\"contents\">{rows}</ul></nav>\n"),
+    }
+}
+
+fn title(group: &Group) -> String {
+    match &group.name {
+        Some(name) => format!("Entry <code>{}</code>", escape::html(name)),
+        None => "Outside of the entries".to_string(),
+    }
+}
+
+/// Where an entry stands: entries can have the same name.
+fn place_of(group: &Group) -> Option<String> {
+    let node = group.entry.map(|node| format!("node {node}"));
+    group.place.as_ref().map(|region| format!("line {}", region.start.0)).or(node)
+}
+
+fn group(view: &View, number: usize, group: &Group) -> String {
+    let place = match (&group.place, place_of(group)) {
+        (Some(region), Some(place)) => {
+            format!(" <a class=\"at\" href=\"#line-{}\">{place}</a>", region.start.0)
+        }
+        (None, Some(place)) => format!(" <span class=\"at\">{place}</span>"),
+        (_, None) => String::new(),
+    };
+    let cards: String = group.items.iter().map(|item| card(view, item)).collect();
+    format!(
+        "<section aria-labelledby=\"group-{number}\"><h3 id=\"group-{number}\">{}{place}</h3>\n{cards}</section>\n",
+        title(group)
+    )
+}
+
+fn card(view: &View, item: &Item) -> String {
+    let (fault, number) = (&item.fault, item.number);
+    let words = words::code(fault.code);
+    let part = |title: &str, text: &str| row(title, &prose::paragraphs(text));
+    let said = |pick: fn(&Entry) -> &str| words.map_or("", pick);
+    format!(
+        "<article class=\"card\" id=\"fault-{number}\" aria-labelledby=\"title-{number}\">\
+         <h4 id=\"title-{number}\"><span class=\"tag here\"><span class=\"quiet\">Fault </span>{number}</span> {}</h4>\n\
+         <dl>{}{}{}{}{}</dl>\n{}<p class=\"code-number\">{}: {} (code {})</p></article>\n",
+        prose::sentence(&fault.sentence),
+        row("Where", &place(view, number, &fault.here, &item.here, "here")),
+        fault.related.as_ref().map_or(String::new(), |mark| {
+            row("Related place", &place(view, number, mark, &item.related, "also"))
+        }),
+        part("What it means", said(|words| &words.means)),
+        part("Why it matters", said(|words| &words.matters)),
+        row("How to mend it", &format!("<p class=\"mend\">{}</p>", prose::sentence(&fault.mend))),
+        words.filter(|_| item.first).map_or(String::new(), example),
+        prose::sentence(about::word(fault.pass)),
+        prose::line(&fault.title),
+        fault.code,
+    )
+}
+
+fn row(title: &str, html: &str) -> String {
+    if html.is_empty() { String::new() } else { format!("<div><dt>{title}</dt><dd>{html}</dd></div>") }
+}
+
+/// A place in words: in the text where it lies there, else by its node. The class is `here`, or `also`
+/// for a related place.
+fn place(view: &View, number: usize, mark: &Mark, region: &Option<Region>, class: &str) -> String {
+    let label = prose::line(&mark.label);
+    let label = if label.is_empty() { label } else { format!(": {label}") };
+    let node = mark.node;
+    match (&view.source, region) {
+        (Some(source), Some(region)) => format!(
+            "<p><a href=\"#{class}-{number}\">{}</a>{label}</p>{}",
+            prose::sentence(&region.in_words()),
+            excerpt(source, region, class)
+        ),
+        (Some(_), None) => format!(
+            "<p>Node {node}{label} (its place, bytes {} to {}, is not in this text)</p>",
+            mark.span.from, mark.span.to
+        ),
+        (None, _) => format!("<p>Node {node} of the packed contract{label}</p>"),
+    }
+}
+
+fn example(words: &Entry) -> String {
+    if words.before.is_empty() && words.after.is_empty() {
+        return String::new();
+    }
+    let part = |title: &str, text: &str| format!("<p>{title}:</p><pre>{}</pre>", escape::html(text));
+    format!(
+        "<details class=\"example\"><summary>An example for code {}</summary>{}{}</details>\n",
+        words.number,
+        part("Before", &words.before),
+        part("Mended", &words.after)
+    )
+}

@@ -1,0 +1,29 @@
+//! A report in the forms that people and programs read.
+
+mod about;
+mod blanks;
+mod escape;
+mod excerpt;
+mod fault;
+mod html;
+mod json;
+mod numbers;
+mod region;
+mod sarif;
+mod sha256;
+mod source;
+mod subject;
+mod terminal;
+mod text;
+mod tree;
+
+pub use fault::{Fault, Mark, faults, list_refused};
+pub use html::html;
+pub use json::json;
+pub use numbers::numbers;
+pub use sarif::sarif;
+pub use source::Source;
+pub use subject::Subject;
+pub use terminal::safe;
+pub use text::text;
+pub use tree::tree;

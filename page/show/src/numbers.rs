@@ -1,0 +1,34 @@
+//! Document 01's report, byte for byte: what the report program prints.
+
+use crate::fault::list_refused;
+use crate::subject::Subject;
+use isonkaypu::{Offence, Pass, Place, Report};
+
+/// "It prints `image N` alone on refusal N. Otherwise: per pass a line (name, code, place, two span
+/// words), `list` and the count (or `list refused 9`), per record a line".
+pub fn numbers(subject: &Subject) -> String {
+    match &subject.outcome {
+        Err(refusal) => format!("image {}\n", refusal.number()),
+        Ok(report) => Pass::ALL.map(|pass| pass_line(report, pass)).concat() + &list(report),
+    }
+}
+
+fn pass_line(report: &Report, pass: Pass) -> String {
+    let verdict = report.verdict(pass);
+    let Place { node, span } = verdict.place;
+    format!("{} {} {node} {} {}\n", pass.word(), verdict.code, span.from, span.to)
+}
+
+fn list(report: &Report) -> String {
+    if list_refused(report) {
+        return "list refused 9\n".to_string();
+    }
+    let records: String = report.offences().iter().map(record).collect();
+    format!("list {}\n{records}", report.offences().len())
+}
+
+fn record(offence: &Offence) -> String {
+    let Place { node, span } = offence.place;
+    let related = offence.related.map_or(0, |place| place.node);
+    format!("{} {node} {related} {} {}\n", offence.code, span.from, span.to)
+}

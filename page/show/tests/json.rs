@@ -1,0 +1,106 @@
+//! The JSON form: strict, whole, and the same at any source.
+
+mod common;
+
+use common::chance::Chance;
+use common::json::Json;
+use common::{images, respanned, sample, shown, shown_source, shown_ward};
+
+const KEYS: &[&str] = &[
+    "complete",
+    "doubts",
+    "image",
+    "kit",
+    "label",
+    "not_checked",
+    "offences",
+    "outcome",
+    "schema",
+    "source",
+    "tool",
+    "verdicts",
+];
+
+fn keys(json: &Json) -> Vec<&str> {
+    let Json::Object(members) = json else { panic!("no object: {json:?}") };
+    members.keys().map(String::as_str).collect()
+}
+
+#[test]
+fn a_faulty_contract() {
+    let source = common::ward();
+    let json = Json::read(&shown_ward(show::json));
+    assert_eq!(keys(&json), KEYS);
+    assert_eq!(json.at("outcome/result").text(), "refused");
+    let codes: Vec<u64> = json.at("offences").list().iter().map(|o| o.at("code").number()).collect();
+    assert_eq!(codes, [30, 51, 62]);
+    for offence in json.at("offences").list() {
+        assert_eq!(
+            keys(offence),
+            ["code", "entry", "mend", "name", "pass", "place", "related", "sentence", "title"]
+        );
+        assert_eq!(keys(offence.at("place")), ["label", "node", "region", "span"]);
+    }
+    let (changed, twice) = (json.at("offences/1"), json.at("offences/2"));
+    assert_eq!(changed.at("entry").text(), "issue");
+    assert_eq!([changed.at("name").text(), twice.at("name").text()], ["issued", "part"]);
+    assert_eq!(cut(&source, changed.at("place")), "issued = checked(issued + amount);");
+    assert_eq!(cut(&source, twice.at("place")), "let part = stock.get(ward).split(amount);");
+    assert_eq!(cut(&source, twice.at("related")), "part");
+    assert_eq!(twice.at("related/region/start_line").number(), line_of(&source, "send(pharmacist, part)"));
+    assert_eq!(twice.at("related/region/start_column").number(), 26);
+}
+
+fn cut<'a>(source: &'a str, place: &Json) -> &'a str {
+    &source[place.at("span/from").number() as usize..place.at("span/to").number() as usize]
+}
+
+fn line_of(source: &str, text: &str) -> u64 {
+    source[..source.find(text).expect("it is there")].matches('\n').count() as u64 + 1
+}
+
+#[test]
+fn an_accepted_contract() {
+    let json = Json::read(&shown_source(show::json, &common::mended()));
+    assert_eq!(json.at("outcome/result").text(), "accepted");
+    assert_eq!(json.at("outcome/refusal"), &Json::Null);
+    assert_eq!(json.at("offences"), &Json::List(vec![]));
+    let accepted: Vec<_> = json.at("verdicts").list().iter().map(|v| v.at("accepted").clone()).collect();
+    assert_eq!(accepted, vec![Json::Bool(true); 3]);
+    assert_eq!(json.at("not_checked").list().len(), 2);
+}
+
+#[test]
+fn no_image() {
+    let json = Json::read(&shown(show::json, "x", b"no image", None));
+    assert_eq!(keys(&json), KEYS);
+    assert_eq!(json.at("outcome/result").text(), "no image");
+    assert_eq!(json.at("outcome/refusal/number").number(), 1);
+    assert_eq!((json.at("verdicts"), json.at("offences")), (&Json::Null, &Json::Null));
+    let gaps: Vec<&str> = json.at("not_checked").list().iter().map(Json::text).collect();
+    assert_eq!(gaps, ["names", "access", "lots", "supply (conserve)", "signed authority"]);
+}
+
+/// Without the source there are names and node numbers, and no regions.
+#[test]
+fn without_the_source() {
+    let json = Json::read(&shown(show::json, "ward.image", &sample("ward.image"), None));
+    assert_eq!(json.at("source"), &Json::Null);
+    assert_eq!(json.at("offences").list().len(), 3);
+    assert!(json.at("offences").list().iter().all(|o| o.at("place/region") == &Json::Null));
+}
+
+/// Any source, any label and any span words are written and read back.
+#[test]
+fn anything_is_read_back() {
+    for (seed, image) in (0..300).zip(images().iter().cycle()) {
+        let mut chance = Chance::new(seed);
+        let length = chance.below(60);
+        let source = chance.nasty(length);
+        let label = String::from_utf8_lossy(&chance.nasty(8)).into_owned();
+        let image = respanned(image, |_| chance.span(source.len()));
+        let json = Json::read(&shown(show::json, &label, &image, Some(&source)));
+        assert_eq!(json.at("label").text(), label);
+        assert!(!json.at("offences").list().is_empty());
+    }
+}

@@ -1,0 +1,173 @@
+//! The help page and the words of `explain`, made from the file of words.
+
+use crate::{CHECKED, Entry, Term, codes, glossary, lines, refusals, statuses};
+
+/// How wide the text of `explain` is.
+const WIDTH: usize = 88;
+
+/// What a report writes for this number.
+fn said(entry: &Entry) -> String {
+    match entry.number {
+        9 => "list refused 9".to_string(),
+        n if n < 20 => format!("image {n}"),
+        n => format!("code {n}"),
+    }
+}
+
+/// `explain` with a number: its entry at length, for a terminal.
+pub fn explain(entry: &Entry) -> String {
+    let mut text = format!("{}: {}\n", said(entry), entry.title);
+    let parts =
+        [("What it says", &entry.means), ("Why it matters", &entry.matters), ("How to mend it", &entry.how)];
+    for (heading, part) in parts {
+        text += &format!("\n{heading}\n{}", wrapped(part));
+    }
+    for (heading, example) in [("Before", &entry.before), ("After", &entry.after)] {
+        if !example.is_empty() {
+            text += &format!("\n{heading}\n{}", inset(example));
+        }
+    }
+    text
+}
+
+/// `explain` with a word of the language.
+pub fn explain_term(term: &Term) -> String {
+    format!("{}\n{}", term.word, wrapped(&term.means))
+}
+
+/// `explain` alone: everything that can be asked for.
+pub fn explain_list() -> String {
+    let row = |(what, title): (String, &str)| format!("  {what:<10} {title}\n");
+    let refusals: String =
+        refusals().iter().map(|e| row((format!("image {}", e.number), &e.title))).collect();
+    let codes: String = codes().iter().map(|e| row((e.number.to_string(), &e.title))).collect();
+    let terms: Vec<&str> = glossary().iter().map(|t| t.word.as_str()).collect();
+    format!(
+        "Refusals of an image\n{refusals}\nFaults of a contract\n{codes}\nWords\n{}",
+        wrapped(&terms.join(", "))
+    )
+}
+
+/// Paragraphs, set in by two and broken between words.
+fn wrapped(text: &str) -> String {
+    text.split("\n\n").map(paragraph).collect::<Vec<_>>().join("\n")
+}
+
+fn paragraph(text: &str) -> String {
+    let mut lines = vec![String::new()];
+    for word in text.split_whitespace() {
+        let line = lines.last().map_or(0, |l| l.chars().count());
+        if line > 0 && line + 1 + word.chars().count() > WIDTH {
+            lines.push(String::new());
+        }
+        if let Some(last) = lines.last_mut() {
+            last.push_str(if last.is_empty() { "" } else { " " });
+            last.push_str(word);
+        }
+    }
+    lines.iter().map(|line| format!("  {line}\n")).collect()
+}
+
+fn inset(example: &str) -> String {
+    example.lines().map(|line| format!("    {line}").trim_end().to_string() + "\n").collect()
+}
+
+/// The help page, docs/HELP.md: everything that the file of words says.
+pub fn help_page() -> String {
+    let sections = [
+        HEAD.to_string(),
+        section("Words", "", &terms(glossary())),
+        section("The lines of a report", LINES, &terms(lines_but_last())),
+        section("The same for people", PEOPLE, &terms(last_line())),
+        section("Exit statuses", STATUSES, &terms(statuses())),
+        section("The image: refusals", IMAGE, &entries(refusals())),
+        section("Resolve: names", RESOLVE, &entries(coded(20..=40))),
+        section("Access: who changes what", "", &entries(coded(50..=51))),
+        section("Linear: each lot is used exactly once", LINEAR, &entries(coded(60..=62))),
+    ];
+    sections.join("\n")
+}
+
+const HEAD: &str = "\
+<!-- Made from page/words/words.txt by `isonkaypu help-page`. Edit that file, not this one. -->
+# Help: every line and number of a report
+
+For whoever uploads a contract and gets a report back. `isonkaypu explain 62`, `isonkaypu explain image 5` and
+`isonkaypu explain lot` print the same words.
+";
+
+const LINES: &str = "\
+`./report FILE` and `isonkaypu check FILE --format numbers` print these lines. Numbers are decimal.
+
+";
+
+const PEOPLE: &str = "\
+`isonkaypu check FILE` writes the same report in words; with `--source TEXT`, the text that you uploaded, it shows
+each fault in its line.
+
+";
+
+const STATUSES: &str = "\
+Of `isonkaypu` and of `./report`, for programs that call them.
+
+";
+
+const IMAGE: &str = "\
+Given before anything is checked; the first that applies is given. 1 to 8 are printed as `image N`.
+
+";
+
+const RESOLVE: &str = "\
+In all rules capital and small letters are different: `Limit` and `limit` are two names.
+
+";
+
+const LINEAR: &str = "\
+A lot is a parameter of type `Q_Asset<...>`, or a `let` whose value is a `.split(...)` or a `mint(...)`. What counts as
+a use stands under \"use of a lot\" above.
+
+";
+
+fn section(heading: &str, opening: &str, body: &str) -> String {
+    format!("## {heading}\n\n{opening}{body}")
+}
+
+fn lines_but_last() -> &'static [Term] {
+    lines().split_last().map_or(&[], |(_, rest)| rest)
+}
+
+fn last_line() -> &'static [Term] {
+    lines().iter().position(|t| t.word == CHECKED).map_or(&[], |at| &lines()[at..])
+}
+
+fn coded(range: std::ops::RangeInclusive<u16>) -> &'static [Entry] {
+    let from = codes().partition_point(|e| e.number < *range.start());
+    let to = codes().partition_point(|e| e.number <= *range.end());
+    &codes()[from..to]
+}
+
+fn terms(terms: &[Term]) -> String {
+    terms.iter().map(|t| format!("- **{}**: {}\n", mark_code(&t.word), t.means)).collect()
+}
+
+/// Lines of a report and exit statuses are set as they are printed; words stay words.
+fn mark_code(word: &str) -> String {
+    let printed = lines().iter().chain(statuses()).any(|t| t.word == word);
+    if printed { format!("`{word}`") } else { word.to_string() }
+}
+
+fn entries(entries: &[Entry]) -> String {
+    entries.iter().map(entry).collect::<Vec<_>>().join("\n")
+}
+
+fn entry(entry: &Entry) -> String {
+    let Entry { title, means, matters, how, before, after, .. } = entry;
+    let text = format!(
+        "### `{}`: {title}\n\n{means}\n\n**Why it matters.** {matters}\n\n**How to mend it.** {how}\n",
+        said(entry)
+    );
+    if before.is_empty() {
+        return text;
+    }
+    format!("{text}\nBefore:\n\n{}\nAfter:\n\n{}", inset(before), inset(after))
+}

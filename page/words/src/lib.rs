@@ -1,0 +1,148 @@
+//! What each code of a report and each refusal of an image means, in words for a pharmacist. They
+//! stand in one file, `words.txt`; help, `explain`, text, HTML and SARIF are made from it.
+
+mod help;
+mod read;
+
+pub use help::{explain, explain_list, explain_term, help_page};
+pub use read::{Trouble, read};
+
+use std::sync::OnceLock;
+
+/// The file of words.
+pub const WORDS: &str = include_str!("../words.txt");
+
+/// What there is to say of one number.
+#[derive(Clone, Debug, Default, PartialEq, Eq)]
+pub struct Entry {
+    pub number: u16,
+    /// A few words, without names of the contract.
+    pub title: String,
+    /// The sentence of a report, with `{entry}`, `{name}` and the other `BLANKS` where the contract's
+    /// names stand.
+    pub fault: String,
+    /// The sentence where the offence has no related place, for the one code where that differs.
+    pub alone: String,
+    /// What stands at the place, and at the related place where the rule has one.
+    pub here: String,
+    pub there: String,
+    pub means: String,
+    pub matters: String,
+    /// How to mend it, in one line, with blanks as in `fault`.
+    pub mend: String,
+    /// The same for a lot that no `burns` clause can use up, for the one code where that differs.
+    pub kept: String,
+    /// How to mend it, at length and without blanks.
+    pub how: String,
+    /// An example that shows it, and the same mended. Empty for refusals that no source can show.
+    pub before: String,
+    pub after: String,
+}
+
+/// A word of the language, a line of the report or an exit status, in plain words.
+#[derive(Clone, Debug, PartialEq, Eq)]
+pub struct Term {
+    pub word: String,
+    pub means: String,
+}
+
+/// Everything that the file says, in its order.
+#[derive(Clone, Debug, Default, PartialEq, Eq)]
+pub struct Words {
+    pub glossary: Vec<Term>,
+    pub lines: Vec<Term>,
+    pub statuses: Vec<Term>,
+    pub refusals: Vec<Entry>,
+    pub codes: Vec<Entry>,
+}
+
+/// The last line of every report on a contract.
+pub const CHECKED: &str = "Checked: names, access, lots. NOT checked: supply (conserve), signed authority";
+
+/// The codes of document 01, in the report's order.
+pub const CODES: &[u16] =
+    &[20, 21, 22, 23, 24, 25, 26, 27, 28, 29, 30, 31, 32, 33, 34, 35, 36, 37, 38, 39, 40, 50, 51, 60, 61, 62];
+
+/// The refusals of document 01.
+pub const REFUSALS: &[u16] = &[1, 2, 3, 4, 5, 6, 7, 8, 9];
+
+/// The codes whose records can have a related place.
+pub const RELATED: &[u16] = &[20, 21, 23, 25, 27, 62];
+
+/// The one of these whose records can also have none.
+pub const MAY_STAND_ALONE: u16 = 62;
+
+/// The code that a `burns` clause can mend, for some lots.
+pub const MAY_BE_BURNED: u16 = 61;
+
+/// The blanks that a sentence may have: what the contract's names are filled in for.
+pub const BLANKS: &[&str] = &[
+    "entry",
+    "name",
+    "other",
+    "where",
+    "called",
+    "clause",
+    "parameter",
+    "signature",
+    "count",
+    "given",
+    "declared",
+    "writes",
+];
+
+fn words() -> &'static Words {
+    static READ: OnceLock<Words> = OnceLock::new();
+    // the tests read the file that is shipped, so there is no trouble here
+    READ.get_or_init(|| read(WORDS).unwrap_or_default())
+}
+
+/// The words for a code, 20 to 62.
+pub fn code(number: u16) -> Option<&'static Entry> {
+    codes().iter().find(|e| e.number == number)
+}
+
+/// The words for a refusal, 1 to 9.
+pub fn refusal(number: u16) -> Option<&'static Entry> {
+    refusals().iter().find(|e| e.number == number)
+}
+
+/// All codes, in the report's order.
+pub fn codes() -> &'static [Entry] {
+    &words().codes
+}
+
+/// All refusals, in the order in which they are tested.
+pub fn refusals() -> &'static [Entry] {
+    &words().refusals
+}
+
+/// The words of the language, the plainest first.
+pub fn glossary() -> &'static [Term] {
+    &words().glossary
+}
+
+/// The explanation of a word.
+pub fn term(word: &str) -> Option<&'static Term> {
+    glossary().iter().find(|t| t.word == word)
+}
+
+/// The lines of a report.
+pub fn lines() -> &'static [Term] {
+    &words().lines
+}
+
+/// The exit statuses of the programs.
+pub fn statuses() -> &'static [Term] {
+    &words().statuses
+}
+
+#[cfg(test)]
+mod tests {
+    use super::*;
+
+    #[test]
+    fn the_shipped_file_is_read() {
+        assert_eq!(read(WORDS).map_err(|t| t.to_string()).map(|w| w.codes.len()), Ok(CODES.len()));
+    }
+}

@@ -1,0 +1,211 @@
+//! What the file of words claims beside its examples is true: each claim that an editor could get
+//! wrong, asked of the proved checker.
+
+use isonkaypu::{check_image, is_known_asset};
+
+/// The codes that a contract with these items has.
+fn codes(items: &str) -> Vec<u16> {
+    let text = format!("contract C {{ {items} }}");
+    let report = check_image(&example::image(&text)).unwrap_or_else(|refusal| panic!("{refusal}: {text}"));
+    report.offences().iter().map(|offence| offence.code).collect()
+}
+
+/// The codes of an entry with a lot `lot` of `M`, an address `to` and fields `s` and `t`, which it
+/// writes.
+fn with_lot(clauses: &str, body: &str) -> Vec<u16> {
+    codes(&format!(
+        "asset M; state {{ s: Q_Asset<M>; t: u64; }} event E(a: u64);
+         entry e(lot: Q_Asset<M>, to: Q_Address) writes s, t {clauses} {{ {body} }}"
+    ))
+}
+
+fn refusal(text: &str) -> Option<u8> {
+    check_image(&example::image(text)).err().map(|refusal| refusal.number())
+}
+
+#[test]
+fn a_use_of_a_lot() {
+    for used in
+        ["send(to, lot);", "s.merge(lot);", "s = lot;", "t = s.get(s.set(lot));", "send(to, checked(lot));"]
+    {
+        assert_eq!(with_lot("", used), [], "{used}");
+    }
+    assert_eq!(with_lot("burns M", ""), []);
+    for unused in
+        ["emit E(lot);", "s.get(lot);", "s.contains(lot);", "lot.split(5);", "t = lot + 1;", "guard lot > 1;"]
+    {
+        assert_eq!(with_lot("", unused), [61], "{unused}");
+    }
+    // `has` is no use, and is refused on top
+    assert_eq!(with_lot("", "s.has(lot);"), [34, 61]);
+    assert_eq!(with_lot("", "s = checked(lot);"), [61]);
+}
+
+#[test]
+fn burns_never_mends_a_let() {
+    let split = |clauses: &str, after: &str| {
+        with_lot(clauses, &format!("send(to, lot); let part = s.split(1); {after}"))
+    };
+    assert_eq!(split("", ""), [61]);
+    assert_eq!(split("burns M", ""), [62, 61]);
+    assert_eq!(split("", "send(to, part);"), []);
+    assert_eq!(codes("asset M; entry e() burns M { let made = mint(1); }"), [61]);
+}
+
+#[test]
+fn burns_counts_as_one_use_and_has_no_second_place() {
+    let text = "contract C { asset M; entry e(lot: Q_Asset<M>, to: Q_Address) burns M { send(to, lot); } }";
+    let report = check_image(&example::image(text)).expect("an image");
+    let said: Vec<_> = report.offences().iter().map(|o| (o.code, o.related.is_some())).collect();
+    assert_eq!(said, [(62, false)]);
+}
+
+#[test]
+fn with_60_mended_a_61_may_vanish() {
+    assert_eq!(with_lot("", "let box = lot; send(to, box);"), [60, 61]);
+    assert_eq!(with_lot("", "send(to, lot);"), []);
+    // "uses are counted for the last one of a name"
+    let twice = "entry e(lot: Q_Asset<M>, lot: Q_Asset<M>, to: Q_Address) { send(to, lot); }";
+    assert_eq!(codes(twice), [25, 61]);
+}
+
+#[test]
+fn used_before_its_let() {
+    for early in ["let x = x;", "x = 1; let x = 2;", "guard x > 1; let x = 2;", "let y = x; let x = 1;"] {
+        assert_eq!(codes(&format!("entry e() {{ {early} }}")), [26], "{early}");
+    }
+    assert_eq!(codes("state { s: u64; } genesis { s = x; let x = 1; let x = 2; }"), []);
+}
+
+#[test]
+fn events() {
+    // the last declaration counts, even one below the `emit`
+    assert_eq!(codes("event E(); entry e() { emit E(1); } event E(a: u64);"), [21]);
+    assert_eq!(codes("event E(); entry e() { emit E(); } event E(a: u64);"), [21, 31]);
+    assert_eq!(codes("genesis { emit E(); }"), [30]);
+}
+
+#[test]
+fn deployer() {
+    assert_eq!(codes("state { owner: Q_Address = deployer; }"), []);
+    assert_eq!(codes("state { owner: Q_Address; } genesis { owner = deployer; }"), []);
+    for clause in ["limits deployer == 1", "denies deployer == 1", "after deployer"] {
+        assert_eq!(codes(&format!("entry e() {clause} {{ }}")), [32], "{clause}");
+    }
+    assert_eq!(codes("entry e(a: u64 signed_by deployer) { }"), [32, 35]);
+    assert_eq!(codes("invariant deployer == 1;"), [32, 50]);
+}
+
+#[test]
+fn what_can_be_called() {
+    let entry = words::code(34).expect("34");
+    for function in ["send", "send_asset", "mint", "mint_asset"] {
+        assert_eq!(codes(&format!("entry e() {{ {function}(1); }}")), []);
+        assert!(
+            entry.means.contains(&format!("`{function}`")) && entry.mend.contains(&format!("`{function}`"))
+        );
+    }
+    let methods = ["get", "contains", "split", "set", "remove", "merge", "insert", "debit", "credit"];
+    for method in methods {
+        assert_eq!(codes(&format!("state {{ s: u64; }} entry e() writes s {{ s.{method}(1); }}")), []);
+        assert!(entry.means.contains(&format!("`{method}`")) && entry.mend.contains(&format!("`{method}`")));
+    }
+    assert_eq!(codes("state { s: u64; } entry e() { s.has(1); }"), [34]);
+    assert_eq!(codes("genesis { tell(1); }"), [34]);
+    assert_eq!(codes("entry other() { } entry e() { other(); }"), [34]);
+}
+
+#[test]
+fn known_and_declared_assets() {
+    let clause =
+        |clause: &str| codes(&format!("state {{ s: Map<u64, Q_Asset<K>>; }} entry e() {clause} {{ }}"));
+    assert_eq!([clause("conserves QTOV"), clause("conserves K")], [[], []]);
+    assert_eq!(
+        [clause("mints QTOV"), clause("mints K"), clause("burns QTOV"), clause("burns K")],
+        [[38], [38], [39], [39]]
+    );
+    assert_eq!(clause("conserves Other"), [37]);
+    assert_eq!(codes("asset M; entry e() conserves M mints M burns M { }"), []);
+    assert_eq!(is_known_asset(&example::image("contract C { }"), b"QTOV"), Ok(true));
+}
+
+#[test]
+fn addresses_are_not_called() {
+    let body = |body: &str| {
+        codes(&format!("state {{ owner: Q_Address; }} entry e(to: Q_Address) writes owner {{ {body} }}"))
+    };
+    assert_eq!(body("to.get(1);"), [40]);
+    assert_eq!(body("owner.set(to);"), [40]);
+    assert_eq!(body("caller.pay(5);"), [40, 34]);
+    assert_eq!(body("to(5);"), [40, 34]);
+    assert_eq!(body("owner = to;"), []);
+}
+
+#[test]
+fn what_changes_a_field() {
+    let body =
+        |clauses: &str, body: &str| codes(&format!("state {{ s: u64; }} entry e() {clauses} {{ {body} }}"));
+    let entry = words::code(51).expect("51");
+    for method in ["merge", "split", "credit", "debit", "insert", "remove", "set"] {
+        let call = format!("s.{method}(1);");
+        assert_eq!(
+            [body("", &call), body("reads s", &call), body("writes s", &call)],
+            [vec![51], vec![51], vec![]]
+        );
+        assert!(entry.means.contains(&format!("`{method}`")));
+    }
+    assert_eq!([body("", "s.get(1);"), body("", "s.contains(1);")], [[], []]);
+    assert_eq!([body("", "s = 1;"), body("", "s.count = 1;")], [[51], [51]]);
+    assert_eq!(body("", "s.get(1).split(5);"), []);
+}
+
+#[test]
+fn an_asset_that_is_declared_twice_counts_as_two() {
+    assert_eq!(codes("asset M; asset M; genesis { mint_asset(1, 2); }"), [22]);
+    assert_eq!(codes("asset M; genesis { mint_asset(1, 2); }"), []);
+}
+
+#[test]
+fn names_that_an_image_refuses() {
+    let field = |name: &str| refusal(&format!("contract C {{ state {{ {name}: u64; }} }}"));
+    assert_eq!([field("mg3"), field("_3"), field(&"a".repeat(128))], [None; 3]);
+    assert_eq!([field("für"), field(&"a".repeat(129))], [Some(5); 2]);
+    assert_eq!(field("3mg"), Some(6));
+    assert_eq!(refusal("contract C { state { q: Quorum<3>; } }"), None);
+}
+
+#[test]
+fn contracts_that_an_image_refuses() {
+    let sum = |terms: usize| refusal(&format!("contract C {{ invariant {}a; }}", "a + ".repeat(terms - 1)));
+    assert_eq!([sum(63), sum(64)], [None, Some(7)]);
+    let names = |count: usize| (0..count).map(|i| format!("asset n{i};")).collect::<String>();
+    let of_names = |count: usize| refusal(&format!("contract C {{ {} }}", names(count)));
+    assert_eq!([of_names(1_023), of_names(1_024)], [None, Some(3)]);
+}
+
+/// The maxima that the file names are those of the image form.
+#[test]
+fn maxima() {
+    use form::image::{HEADER, MAX_ANCESTORS, MAX_NAME, MAX_NAMES, MAX_NODES, MAX_TEXT, NODE};
+    let longest = HEADER + NODE * MAX_NODES + 2 * (MAX_NAMES + 1) + MAX_TEXT;
+    let said = |number: u16, maximum: usize| {
+        let thousands = format!("{},{:03}", maximum / 1_000, maximum % 1_000);
+        let shown = if maximum < 1_000 { maximum.to_string() } else { thousands };
+        let entry = words::refusal(number).expect("a refusal");
+        assert!(entry.means.contains(&shown), "{number} does not say {shown}");
+    };
+    let maxima = [
+        (1, longest),
+        (1, HEADER),
+        (3, MAX_NODES),
+        (3, MAX_NAMES),
+        (5, MAX_NAME),
+        (5, MAX_TEXT),
+        (7, MAX_ANCESTORS),
+    ];
+    for (number, maximum) in maxima {
+        said(number, maximum);
+    }
+    // the report's list has 32,768 words, three to a record
+    said(9, 32_768 / 3);
+}

@@ -1,0 +1,86 @@
+//! The reader of the file of words is strict: each thing that an editor can get wrong has its test.
+
+use words::{CODES, REFUSALS, WORDS, read};
+
+/// What the reader says of the shipped file with `from` replaced, once, by `to`.
+fn trouble(from: &str, to: &str) -> String {
+    assert!(WORDS.contains(from), "the file has no `{from}`");
+    read(&WORDS.replacen(from, to, 1)).err().map_or("no trouble".to_string(), |t| t.what)
+}
+
+#[test]
+fn the_shipped_file_is_whole() {
+    let words = read(WORDS).expect("the shipped file is read");
+    assert_eq!(words.codes.iter().map(|e| e.number).collect::<Vec<_>>(), CODES);
+    assert_eq!(words.refusals.iter().map(|e| e.number).collect::<Vec<_>>(), REFUSALS);
+    for word in ["contract", "entry", "state", "lot", "genesis", "clause", "event", "invariant", "asset"] {
+        assert!(words.glossary.iter().any(|t| t.word == word), "no `{word}` in the glossary");
+    }
+    assert_eq!((words.lines.len(), words.statuses.len()), (8, 4));
+    assert_eq!(words.lines.last().map(|t| t.word.as_str()), Some(words::CHECKED));
+}
+
+#[test]
+fn missing() {
+    assert_eq!(trouble("title: a lot is never used\n", ""), "`title:` is missing in [code 61]");
+    assert_eq!(trouble("title: a lot is never used\n", "title:\n"), "`title:` is missing in [code 61]");
+    assert_eq!(trouble("there: its second use\n", ""), "`there:` is missing in [code 62]");
+    let start = WORDS.find("[code 50]").expect("50");
+    let end = WORDS.find("[code 51]").expect("51");
+    let without = format!("{}{}", &WORDS[..start], &WORDS[end..]);
+    assert_eq!(
+        read(&without).map_err(|t| t.what),
+        Err("[code 50] is missing, or not in its place".to_string())
+    );
+    let without_last = &WORDS[..WORDS.find("[code 62]").expect("62")];
+    assert_eq!(
+        read(without_last).map_err(|t| t.what),
+        Err("[code 62] is missing, or not in its place".to_string())
+    );
+}
+
+#[test]
+fn doubled() {
+    let title = "title: a lot is never used\n";
+    assert_eq!(trouble(title, &title.repeat(2)), "`title:` stands twice in this entry");
+    assert_eq!(trouble("[code 61]", "[code 60]"), "`code 60` stands twice");
+    assert_eq!(trouble("[image 4]", "[image 3]"), "`image 3` stands twice");
+    assert_eq!(trouble("[term state]", "[term contract]"), "`contract` stands twice");
+}
+
+#[test]
+fn unknown() {
+    assert_eq!(trouble("[code 61]", "[code 63]"), "document 01 has no `code 63`");
+    assert_eq!(trouble("[image 9]", "[image 10]"), "document 01 has no `image 10`");
+    assert_eq!(trouble("[image 9]", "[image nine]"), "document 01 has no `image nine`");
+    assert_eq!(trouble("[image 9]", "[picture 9]"), "`picture` is no kind of entry");
+    assert_eq!(trouble("title: a lot is", "heading: a lot is"), "`heading:` is no field of this entry");
+    assert_eq!(trouble("lot `{other}` a", "lot `{lot}` a"), "`{lot}` is no blank of `fault:`");
+    assert_eq!(
+        trouble("title: a lot is never", "title: {name} is never"),
+        "`{name}` is no blank of `title:`"
+    );
+}
+
+#[test]
+fn misplaced() {
+    let here = "here: emitted here\n";
+    assert_eq!(trouble(here, &format!("{here}there: elsewhere\n")), "`there:` does not belong here");
+    assert_eq!(trouble(here, &format!("{here}kept: as it is\n")), "`kept:` does not belong here");
+    assert_eq!(trouble("[term contract]", "contract\n[term contract]"), "words before the first `[...]`");
+    assert_eq!(trouble("[term contract]", "[contract]"), "a head is `[kind of]`, such as `[code 51]`");
+    assert_eq!(
+        trouble("[term contract]\n", "[term contract]\n  set in\n"),
+        "a line that is set in, but no field above it"
+    );
+    let no_field = "neither a field, `name: words`, nor set in by two spaces";
+    assert_eq!(trouble("  the contract. Tell", " the contract. Tell"), no_field);
+}
+
+#[test]
+fn the_line_is_told() {
+    let line = WORDS.lines().position(|l| l == "[code 61]").expect("61") + 1;
+    let wrong = WORDS.replacen("[code 61]", "[code 63]", 1);
+    let told = read(&wrong).map_err(|t| (t.line, t.to_string()));
+    assert_eq!(told, Err((line, format!("line {line}: document 01 has no `code 63`"))));
+}
