@@ -1,13 +1,10 @@
 //! Reading files, never more of them than can be used.
 
-use form::image::{HEADER, MAX_NAMES, MAX_NODES, MAX_TEXT, NODE};
+use form::image::MAX_LENGTH;
 use std::fs::File;
 use std::io::{self, Read};
 use std::os::fd::AsFd;
 use std::path::Path;
-
-/// The length of an image that has every maximum.
-const LONGEST_IMAGE: usize = HEADER + NODE * MAX_NODES + 2 * (MAX_NAMES + 1) + MAX_TEXT;
 
 /// The most of a source that is read. A contract that an image can hold is far shorter.
 const LONGEST_SOURCE: usize = 1 << 20;
@@ -15,7 +12,7 @@ const LONGEST_SOURCE: usize = 1 << 20;
 /// The image, as far as one byte past the longest: what is longer is refused by its length, whatever
 /// else it has.
 pub fn image(path: &Path) -> Result<Vec<u8>, String> {
-    start(path, LONGEST_IMAGE + 1).map_err(|error| format!("could not read {}: {error}", path.display()))
+    start(path, MAX_LENGTH + 1).map_err(|error| format!("could not read {}: {error}", path.display()))
 }
 
 /// The whole source.

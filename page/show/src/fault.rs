@@ -53,6 +53,11 @@ fn offences(report: &Report) -> Cow<'_, [Offence]> {
     firsts.map(first).collect()
 }
 
+/// "1 fault", "2 faults"
+pub fn counted(count: usize) -> String {
+    format!("{count} fault{}", if count == 1 { "" } else { "s" })
+}
+
 /// Whether there was no room for the list.
 pub fn list_refused(report: &Report) -> bool {
     report.doubts().iter().any(|doubt| matches!(doubt, Doubt::List(_) | Doubt::Count(_)))

@@ -2,7 +2,7 @@
 //! mend it, and what was not checked.
 
 use crate::excerpt::Excerpt;
-use crate::fault::{Fault, Mark, faults, list_refused};
+use crate::fault::{Fault, Mark, counted, faults, list_refused};
 use crate::source::Source;
 use crate::subject::Subject;
 use crate::terminal::safe;
@@ -42,8 +42,7 @@ fn banner(label: &str, report: &Report, count: usize) -> String {
     let (answer, what) = match (report.accepted(), list_refused(report), report.doubts()) {
         (true, _, _) => ("ACCEPTED", "no faults".to_string()),
         (false, true, _) => ("REFUSED", "too many faults for a list; the first of each check".to_string()),
-        (false, false, []) if count == 1 => ("REFUSED", "1 fault".to_string()),
-        (false, false, []) => ("REFUSED", format!("{count} faults")),
+        (false, false, []) => ("REFUSED", counted(count)),
         (false, false, _) => ("REFUSED", "the answers are in doubt".to_string()),
     };
     let doubts: String = report.doubts().iter().map(|doubt| format!("in doubt: {doubt}\n")).collect();

@@ -3,6 +3,7 @@
 use super::prose;
 use super::view::{Item, View};
 use crate::about::{self, Check, Gap};
+use crate::fault::counted;
 use crate::{escape, list_refused};
 use isonkaypu::{Doubt, ImageRefusal, Pass, Report};
 
@@ -23,7 +24,7 @@ pub fn title(view: &View) -> String {
         Ok(report) if report.accepted() => "Accepted".to_string(),
         Ok(report) if list_refused(report) => "Refused: more faults than can be listed".to_string(),
         Ok(report) if !report.doubts().is_empty() => "Refused: the answers are in doubt".to_string(),
-        Ok(_) => format!("Refused: {}", prose::faults(view.count())),
+        Ok(_) => format!("Refused: {}", counted(view.count())),
         Err(_) => "Could not be read".to_string(),
     }
 }
@@ -137,7 +138,7 @@ pub fn checked(view: &View) -> String {
 fn check_row(check: &Check, count: usize) -> String {
     let (class, result) = match count {
         0 => ("fine", "no fault".to_string()),
-        _ => ("faulty", prose::faults(count)),
+        _ => ("faulty", counted(count)),
     };
     format!(
         "<li class=\"{class}\"><strong>{}: {result}</strong> <span>{}</span></li>",

@@ -3,6 +3,7 @@
 use super::excerpt::excerpt;
 use super::prose;
 use super::view::{Group, Item, View};
+use crate::fault::counted;
 use crate::region::Region;
 use crate::{Mark, about, escape};
 use words::Entry;
@@ -22,7 +23,7 @@ pub fn section(view: &View) -> String {
 /// Where to find which entry's faults, where there is more than one.
 fn contents(view: &View) -> String {
     let row = |(i, group): (usize, &Group)| {
-        let count = prose::faults(group.items.len());
+        let count = counted(group.items.len());
         let place = place_of(group).map_or(String::new(), |place| format!(", {place}"));
         format!("<li><a href=\"#group-{}\">{}</a>{place}: {count}</li>", i + 1, title(group))
     };

@@ -32,11 +32,6 @@ pub fn paragraphs(text: &str) -> String {
     text.split("\n\n").filter(kept).map(|part| format!("<p>{}</p>", sentence(part.trim()))).collect()
 }
 
-/// "1 fault", "2 faults"
-pub fn faults(count: usize) -> String {
-    format!("{count} fault{}", if count == 1 { "" } else { "s" })
-}
-
 #[cfg(test)]
 mod tests {
     use super::*;
