@@ -9,7 +9,7 @@ use Rattle.image.specs.Admit.{refusal, admissionOf}
 use Rattle.image.specs.declared.Admission.the-variants as admission
 use Rattle.image.proofs.Verdict.{refused-is}
 use Rattle.rules.proofs.Answers.{refusal-most}
-use Rattle.typeck.proofs.Laws.{refused-number}
+use Rattle.nodes.proofs.Admission.{refused-number}
 use Rattle.linear_table.specs.Table.{Cut, TableOf}
 use Rattle.linear_table.proofs.Held.{holds-past}
 

@@ -17,3 +17,4 @@ pub mod Naming
 pub mod Steps
 pub mod Until
 pub mod Head
+pub mod Admission

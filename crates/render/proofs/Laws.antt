@@ -26,7 +26,7 @@ use Rattle.typeck.specs.declared.Listed.{Listed}
 use Rattle.typeck.specs.declared.Listed.the-variants as the
 use Rattle.typeck.specs.declared.Verdict.{Verdict}
 use Rattle.typeck.specs.Face.{Stands, answerOf, listingOf, listedOf}
-use Rattle.typeck.proofs.Laws.{refused-number}
+use Rattle.nodes.proofs.Admission.{refused-number}
 use Rattle.lines.specs.Line.{digits, rest, Printed}
 use Rattle.lines.proofs.Laws.{wrote-join, wrote-as, few-five, few-ten, rest-length}
 use Rattle.render.specs.Report.{passLine, recordLine, recordLines, listLines, reportText, lineAt}

@@ -6,15 +6,15 @@ use mathlib.Core.Bool.{Bool, true, false}
 use mathlib.Core.List.{List, [], _∷_, _++_, append-nil, append-assoc}
 use native.Mathlib.Omega.{arith}
 use borrow.Author.Tests.{eq-eqb, ne-eqb, lt-ltb, le-ltb, leb-true}
-use lib.Dec.{eqb, leb}
+use lib.Dec.{leb}
 use lib.ListN.{length, length-append, getD, take, drop, length-drop, drop-of-length-le, replicate}
 use lib.Seq.{sets, sets-eq, set-out, take-all, drop-drop}
 use Rattle.image.specs.Pick.{pick, both}
-use Rattle.image.specs.Admit.{refusal, admissionOf, nodeCount, nameCount}
+use Rattle.image.specs.Admit.{refusal, admissionOf}
 use Rattle.image.specs.declared.Image.{Image}
 use Rattle.image.specs.declared.Admission.the-variants as admission
 use Rattle.image.proofs.Every.{both-left}
-use Rattle.image.proofs.Verdict.{admitted-is, refused-is}
+use Rattle.image.proofs.Verdict.{refused-is}
 use Rattle.rules.specs.Tree.{Tree, tree}
 use Rattle.rules.specs.Vocabulary.{Rec}
 use Rattle.rules.specs.Resolve.{resolve}
@@ -27,7 +27,7 @@ use Rattle.rules.proofs.Answers.{refusal-most, length-words, pass-refused, pass
 use Rattle.rules.proofs.Passes.{judges-resolve, judges-access, judges-linear}
 use Rattle.records.specs.Records.{words, Laid, Added}
 use Rattle.records.proofs.Laws.{laid-join, laid-long}
-use Rattle.nodes.specs.Shown.{Admitted}
+use Rattle.nodes.proofs.Admission.{refused-number}
 use Rattle.typeck.specs.declared.Verdict.{Verdict}
 use Rattle.typeck.specs.declared.Verdict.the-variants as answer
 use Rattle.typeck.specs.declared.Reply.{Reply}
@@ -36,19 +36,6 @@ use Rattle.typeck.specs.declared.Listed.the-variants as listed
 use Rattle.typeck.specs.declared.Pass.{Pass}
 use Rattle.typeck.specs.declared.Pass.the-variants as pass
 use Rattle.typeck.specs.Face.{Stands, answerOf, verdictOf, Judged, yesNo, numbered, Replied, listingOf, listedOf, ListedAll, partAnswer, partWords, ListedPart, recordsOf, verdictBy}
-
-module _ (s : List ℕ) where
-  pub admitted-by : (i : Image) → admissionOf (refusal s) s ≡ admission.Admitted i → Admitted s i
-  admitted-by i e =
-      let a = admitted-is (refusal s) s i e in
-      record { admitted = a .0; nodes = ap (λ (j : Image). j .nodes) (a .1); names = ap (λ (j : Image). j .names) (a .1) }
-
-  pub refused-number : (k : ℕ) → admissionOf (refusal s) s ≡ admission.Refused k → k ≡ refusal s
-  refused-number k e = number (eqb (refusal s) 0) e
-    where
-      number : (b : Bool) → pick b (admission.Admitted (record { nodes = nodeCount s; names = nameCount s })) (admission.Refused (refusal s)) ≡ admission.Refused k → k ≡ refusal s
-      number true f = let z : _≡_ {A = ℕ} 0 1 = cc in absurd (omega arith)
-      number false f = cc
 
 -- A pass: the first record, from a buffer of three words
 

@@ -1,7 +1,7 @@
 -- `table_of` meets its contract: admission, then the table.
 use borrow.Author.Needs.{needs}
 use mathlib.Core.Path.{sym, _∙_}
-use Rattle.typeck.proofs.Laws.{admitted-by}
+use Rattle.nodes.proofs.Admission.{admitted-by}
 use Rattle.linear_table.proofs.Made.{number-small, table-refused}
 use Rattle.linear_table.proofs.table_of.Statement.{statement}
 use Rattle.linear_table.proofs.table_of.Tie as tie

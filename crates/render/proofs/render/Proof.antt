@@ -3,7 +3,7 @@ use borrow.Author.Needs.{needs}
 use native.Mathlib.Omega.{arith}
 use mathlib.Core.Path.{sym, _∙_}
 use Rattle.rules.specs.Spelling.{bytes}
-use Rattle.typeck.proofs.Laws.{admitted-by}
+use Rattle.nodes.proofs.Admission.{admitted-by}
 use Rattle.lines.proofs.Laws.{wrote-join, wrote-as}
 use Rattle.render.proofs.Laws.{line-few, report-refused, report-admitted}
 use Rattle.render.proofs.render.Statement.{statement}

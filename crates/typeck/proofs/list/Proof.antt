@@ -2,7 +2,8 @@
 use borrow.Author.Needs.{needs}
 use native.Mathlib.Omega.{arith}
 use mathlib.Core.Path.{sym, _∙_}
-use Rattle.typeck.proofs.Laws.{admitted-by, all-refused, all-short, all-listed}
+use Rattle.nodes.proofs.Admission.{admitted-by}
+use Rattle.typeck.proofs.Laws.{all-refused, all-short, all-listed}
 use Rattle.typeck.proofs.list.Statement.{statement}
 use Rattle.typeck.proofs.list.Tie as tie
 

@@ -2,7 +2,8 @@
 use borrow.Author.Needs.{needs}
 use mathlib.Core.Path.{sym, _∙_}
 use Rattle.typeck.specs.Face.{recordsOf}
-use Rattle.typeck.proofs.Laws.{admitted-by, part-refused, part-listed}
+use Rattle.nodes.proofs.Admission.{admitted-by}
+use Rattle.typeck.proofs.Laws.{part-refused, part-listed}
 use Rattle.typeck.proofs.part_of.Statement.{statement}
 use Rattle.typeck.proofs.part_of.Tie as tie
 

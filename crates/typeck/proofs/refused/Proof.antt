@@ -1,7 +1,7 @@
 -- `refused` meets its contract: admission's number.
 use borrow.Author.Needs.{needs}
 use mathlib.Core.Path.{sym, _∙_}
-use Rattle.typeck.proofs.Laws.{admitted-by, refused-number}
+use Rattle.nodes.proofs.Admission.{admitted-by, refused-number}
 use Rattle.typeck.proofs.refused.Statement.{statement}
 use Rattle.typeck.proofs.refused.Tie as tie
 

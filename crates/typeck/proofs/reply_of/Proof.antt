@@ -3,7 +3,8 @@ use borrow.Author.Needs.{needs}
 use mathlib.Core.Path.{sym, ap, _∙_}
 use Rattle.model.specs.Questions.{questionOf}
 use Rattle.typeck.specs.Face.{yesNo}
-use Rattle.typeck.proofs.Laws.{admitted-by, replied-refused, replied-by}
+use Rattle.nodes.proofs.Admission.{admitted-by}
+use Rattle.typeck.proofs.Laws.{replied-refused, replied-by}
 use Rattle.typeck.proofs.reply_of.Statement.{statement}
 use Rattle.typeck.proofs.reply_of.Tie as tie
 

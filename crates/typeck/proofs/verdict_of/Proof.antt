@@ -1,7 +1,8 @@
 -- `verdict_of` meets its contract: admission, then the pass.
 use borrow.Author.Needs.{needs}
 use mathlib.Core.Path.{sym, _∙_}
-use Rattle.typeck.proofs.Laws.{admitted-by, judged-refused}
+use Rattle.nodes.proofs.Admission.{admitted-by}
+use Rattle.typeck.proofs.Laws.{judged-refused}
 use Rattle.typeck.proofs.verdict_of.Statement.{statement}
 use Rattle.typeck.proofs.verdict_of.Tie as tie
 
