@@ -21,10 +21,16 @@ use Rattle.linear_table.proofs.entry.Tie as tie
 
 -- the item is an Entry, and its rows are tracked
 
-is-entry : (c : tie.After-track) (T : LinearTables (c .before .before .before .before .before .before .before .args .nodes .now) (c .before .before .before .before .before .before .before .args .words) (c .before .before .before .before .before .before .before .args .reader .now) (c .before .before .before .before .before .before .before .args .burned .now) (c .before .before .before .before .before .before .before .args .places .now) (c .before .before .before .before .before .before .before .args .first .now) (c .before .before .before .before .before .before .before .args .last .now) (c .before .before .before .before .before .before .before .args .tallies .now)) → treeOf (T .known .view) .kind (c .before .before .before .before .before .before .before .args .item) ≡ 9
+abbrev Lent : tie.After-track → Type 0
+Lent c =
+    let g = c .before .before .before .before .before .before .before .args in
+    LinearTables (g .nodes .now) (g .words) (g .reader .now) (g .burned .now) (g .places .now) (g .first .now) (g .last .now) (g .tallies .now)
+
+is-entry : (c : tie.After-track) (T : Lent c) → treeOf (T .known .view) .kind (c .before .before .before .before .before .before .before .args .item) ≡ 9
 is-entry c T = sym (c .before .before .before .before .before .kind .ensures (T .known .view)) ∙ c .before .before .before .before .if1 .left
 
-rows : (c : tie.After-track) (T : LinearTables (c .before .before .before .before .before .before .before .args .nodes .now) (c .before .before .before .before .before .before .before .args .words) (c .before .before .before .before .before .before .before .args .reader .now) (c .before .before .before .before .before .before .before .args .burned .now) (c .before .before .before .before .before .before .before .args .places .now) (c .before .before .before .before .before .before .before .args .first .now) (c .before .before .before .before .before .before .before .args .last .now) (c .before .before .before .before .before .before .before .args .tallies .now)) → Rows (T .known .view .image) (rowsOf (c .before .before .before .before .before .before .before .args .item) (treeOf (T .known .view))) (c .track .result) (c .track .last .1 .1 .1 .0) (c .track .last .1 .1 .1 .1 .0) (c .track .last .1 .1 .1 .1 .1 .0)
+rows : (c : tie.After-track) (T : Lent c)
+    → Rows (T .known .view .image) (rowsOf (c .before .before .before .before .before .before .before .args .item) (treeOf (T .known .view))) (c .track .result) (c .track .last .1 .1 .1 .0) (c .track .last .1 .1 .1 .1 .0) (c .track .last .1 .1 .1 .1 .1 .0)
 rows c T = c .track .ensures .1 (T .known) _ (start-rows T)
 
 -- there is room for them
@@ -45,13 +51,22 @@ tally-requires : tie.Need-tally-requires
 tally-requires c κs = let d = (c .before .before .before .before .before .before .before .before .before) in let b = c .before .before .before .before .before .before .before .before .before .before .before .before .before .before .before .before .pre in let T = b .0 in (filled-of T (is-entry d T) (rows d T), b .1, b .2, b .3)
 
 stand-requires : tie.Need-stand-requires
-stand-requires c κs = let d = (c .before .before .before .before .before .before .before .before .before .before .before .before .before) in (placed-of (c .before .before .before .before .before .before .before .before .before .before .before .before .before .before .before .before .before .before .before .before .pre .0) (c .before .before .before .before .before .before .before .before .before .before .before .before .before .before .before .before .before .before .before .before .pre .1) (rows d (c .before .before .before .before .before .before .before .before .before .before .before .before .before .before .before .before .before .before .before .before .pre .0)), room d)
+stand-requires c κs =
+    let d = c .before .before .before .before .before .before .before .before .before .before .before .before .before in
+    let b = d .before .before .before .before .before .before .before .pre in
+    (placed-of (b .0) (b .1) (rows d (b .0)), room d)
 
 untrack-requires : tie.Need-untrack-requires
-untrack-requires c κs = let d = (c .before .before .before .before .before .before .before .before .before .before .before .before .before .before .before .before) in placed-of (c .before .before .before .before .before .before .before .before .before .before .before .before .before .before .before .before .before .before .before .before .before .before .before .pre .0) (c .before .before .before .before .before .before .before .before .before .before .before .before .before .before .before .before .before .before .before .before .before .before .before .pre .1) (rows d (c .before .before .before .before .before .before .before .before .before .before .before .before .before .before .before .before .before .before .before .before .before .before .before .pre .0))
+untrack-requires c κs =
+    let d = c .before .before .before .before .before .before .before .before .before .before .before .before .before .before .before .before in
+    let b = d .before .before .before .before .before .before .before .pre in
+    placed-of (b .0) (b .1) (rows d (b .0))
 
 untrack-requires-2 : tie.Need-untrack-requires-2
-untrack-requires-2 c κs = let d = (c .before .before .before .before .before .before .before .before .before .before .before .before .before .before .before .before .before .before .before) in placed-of (c .before .before .before .before .before .before .before .before .before .before .before .before .before .before .before .before .before .before .before .before .before .before .before .before .before .before .pre .0) (c .before .before .before .before .before .before .before .before .before .before .before .before .before .before .before .before .before .before .before .before .before .before .before .before .before .before .pre .1) (rows d (c .before .before .before .before .before .before .before .before .before .before .before .before .before .before .before .before .before .before .before .before .before .before .before .before .before .before .pre .0))
+untrack-requires-2 c κs =
+    let d = c .before .before .before .before .before .before .before .before .before .before .before .before .before .before .before .before .before .before .before in
+    let b = d .before .before .before .before .before .before .before .pre in
+    placed-of (b .0) (b .1) (rows d (b .0))
 
 add-t15 : tie.Need-add-t15
 add-t15 c = let h = room ((c .before .before .before .before .before .before .before .before .before .before .before .before .before .before .before .before .before .before .before .before)) in omega arith
@@ -62,17 +77,18 @@ returns-3 c = λ T.
     let k = is-entry d T in
     let R = rows d T in
     let G = c .before .before .before .before .before .before .before .before .before .before .tally .ensures (filled-of T k R) in
-    let Q = placed-of T (c .before .before .before .before .before .before .before .before .before .before .before .before .before .before .before .before .before .before .before .before .before .before .before .before .before .before .before .pre .1) R in
+    let Q = placed-of T (d .before .before .before .before .before .before .before .pre .1) R in
     let j = c .before .before .before .before .before .before .stand .ensures in
     let l = c .before .before .before .before .before .before .before .before .before .before .before .before .before .before .before .before .before .before .before .before .track .ensures .2 (T .known) in
-    let m = c .before .before .before .before .before .before .before .before .before .before .before .before .before .before .before .before .before .before .before .before .before .before .before .before .before .before .before .pre .4 in
-    item-stood k (c .before .before .before .before .before .before .before .before .before .before .before .before .before .before .before .before .before .first-alias .ensures .1 (rowed-of T k R (c .before .before .before .before .before .before .before .before .before .before .before .before .before .before .before .before .before .before .before .before .before .before .before .before .before .before .before .pre .1) (c .before .before .before .before .before .before .before .before .before .before .before .before .before .before .before .before .before .before .before .before .before .before .before .before .before .before .before .pre .2))) (c .before .before .before .before .before .before .before .before .before .before .before .before .before .before .before .before .if2 .left) (λ rows e H. holds-as (ap (λ (l : List Row). rows ++ l) (rows-are Q (G .2))) (j .0 Q rows e H)) (rows-long Q (G .2)) (omega arith)
+    let m = d .before .before .before .before .before .before .before .pre .4 in
+    item-stood k
+    (c .before .before .before .before .before .before .before .before .before .before .before .before .before .before .before .before .before .first-alias .ensures .1 (rowed-of T k R (d .before .before .before .before .before .before .before .pre .1) (d .before .before .before .before .before .before .before .pre .2))) (c .before .before .before .before .before .before .before .before .before .before .before .before .before .before .before .before .if2 .left) (λ rows e H. holds-as (ap (λ (l : List Row). rows ++ l) (rows-are Q (G .2))) (j .0 Q rows e H)) (rows-long Q (G .2)) (omega arith)
     (record {
       size = R .size;
       burned-none = G .0;
       first-none = c .before .before .before .untrack .ensures Q First (R .first-rows);
       last-none = c .untrack2 .ensures Q Last (R .last-rows);
-      blank = blanked (c .before .before .before .before .before .before .before .before .before .before .before .before .before .before .before .before .before .before .before .before .before .before .before .before .before .before .before .args .item) R (G .2) (j .1 .0) (j .1 .1);
+      blank = blanked (d .before .before .before .before .before .before .before .args .item) R (G .2) (j .1 .0) (j .1 .1);
     })
     (G .1)
 
