@@ -5,19 +5,33 @@ use super::offset;
 ghost use mathlib.Core.Path.{_≡_};
 ghost use Prim.Native.Nat.{_+_, _*_, _<_, _≤_};
 ghost use lib.ListN.{length};
+ghost use Rattle.image.specs.Pick.{among};
 ghost use Rattle.image.specs.Text.{classOf, formOf, nameAt, namesOk};
 
-// The class of a byte: a letter or `_` 1, a digit 2, any other 0. Small letters, the most common, are tested first.
+// Whether b is one of the bytes from low to high.
+fn among(low: u8, high: u8, b: u8) -> bool
+    ensures { λ r. ⌜ r ≡ among low high b ⌝ }
+{
+    if low <= b { b <= high } else { false }
+}
+
+// The class of a byte: a letter or `_` 1, a digit 2, any other 0.
 fn class(b: u8) -> usize
     ensures { λ r. ⌜ r ≡ classOf b ⌝ }
 {
-    match b {
-        b'a'..=b'z' => 1,
-        b'A'..=b'Z' => 1,
-        b'_' => 1,
-        b'0'..=b'9' => 2,
-        _ => 0,
+    if among(b'a', b'z', b) {
+        return 1;
     }
+    if among(b'A', b'Z', b) {
+        return 1;
+    }
+    if b == b'_' {
+        return 1;
+    }
+    if among(b'0', b'9', b) {
+        return 2;
+    }
+    0
 }
 
 // The form of a text: an identifier 1, a number text 2, neither 0.

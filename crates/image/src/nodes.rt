@@ -13,12 +13,15 @@ use super::table::TEXT;
 use super::table::facts;
 use super::table::may_end;
 use super::table::next;
+use super::wide;
 ghost use mathlib.Core.Path.{_≡_};
 ghost use Prim.Native.Nat.{ℕ, _+_, _*_, _<_, _≤_};
-ghost use mathlib.Core.Bool.{true};
-ghost use lib.ListN.{length};
+ghost use mathlib.Core.Bool.{true, false};
+ghost use lib.ListN.{length, getD};
+ghost use lib.Dec.{leb, eqb};
+ghost use Rattle.image.specs.Pick.{pick};
 ghost use Rattle.image.specs.Maxima.{maxNodes, maxNames};
-ghost use Rattle.image.specs.Node.{kindOf, endOf};
+ghost use Rattle.image.specs.Node.{half, kindOf, endOf};
 ghost use Rattle.image.specs.Digits.{rowOf, restAt, kindTable};
 ghost use Rattle.image.specs.Text.{namesOk};
 ghost use Rattle.image.specs.Tree.{childrenFit, carries, nameFits, nodeOk, treeOk, depthOk, usedIn, usedOk};
@@ -73,6 +76,14 @@ fn children_fit(kinds: &[usize; 46], nodes: &[u8], row: usize, i: usize, e: usiz
     }
 }
 
+// Whether the byte and the u16 of node i that are to be 0 are.
+fn zeros_ok(nodes: &[u8], i: usize) -> bool
+    requires { ⌜ 16 * i + 16 ≤ length (now nodes) ⌝ }
+    ensures { λ r. ⌜ r ≡ eqb (getD (now (nodes .entry)) (16 * i + 1) 0 + half (now (nodes .entry)) (16 * i + 6)) 0 ⌝ }
+{
+    wide(nodes[16 * i + 1]) + half_at(nodes, 16 * i + 6) == 0
+}
+
 // Whether node i of n is as the tree wants it: its zeros, its name number, its end and its children.
 fn node_ok(
     kinds: &[usize; 46],
@@ -86,10 +97,7 @@ fn node_ok(
     requires { ⌜ (i < n) × (16 * n ≤ length (now nodes)) × (2 * m + 2 ≤ length (now names)) × (namesOk (now names) (now text) m ≡ true) × (now kinds ≡ kindTable) ⌝ }
     ensures { λ r. ⌜ r ≡ nodeOk (now (nodes .entry)) (now (names .entry)) (now (text .entry)) n m i ⌝ }
 {
-    if nodes[16 * i + 1] != 0 {
-        return false;
-    }
-    if half_at(nodes, 16 * i + 6) != 0 {
+    if !zeros_ok(nodes, i) {
         return false;
     }
     let of = facts(kinds, kind(nodes, i));
@@ -154,29 +162,37 @@ pub fn depth_ok(nodes: &[u8], n: usize) -> bool
     true
 }
 
-// Whether some of the n nodes has the name at place k, number k + 1.
-fn is_used(nodes: &[u8], n: usize, k: usize) -> bool
-    requires { ⌜ (16 * n ≤ length (now nodes)) × (k < maxNames) ⌝ }
-    ensures { λ r. ⌜ r ≡ usedIn (now (nodes .entry)) n k ⌝ }
+// The cell of a name number in the table of marks: its own, or 0, which is no name's, for a number past the highest. So the sweep needs no branch.
+fn cell(x: usize) -> usize
+    ensures { λ r. ⌜ r ≡ pick (leb x maxNames) x 0 ⌝ }
 {
-    let mut i = 0;
-    while i < n {
-        if name(nodes, i) == k + 1 {
-            return true;
-        }
-        i += 1;
-    }
-    false
+    if x <= Image::NAMES { x } else { 0 }
 }
 
-// Refusal 8, name by name.
+// A mark for each name, by its number: whether some of the n nodes has it.
+fn used(nodes: &[u8], n: usize) -> [bool; Image::NAMES + 1]
+    requires { ⌜ 16 * n ≤ length (now nodes) ⌝ }
+    ensures { λ r. ⌜ ((k : ℕ) → k < maxNames → getD r (k + 1) false ≡ usedIn (now (nodes .entry)) n k) ⌝ }
+{
+    let mut marks = [false; Image::NAMES + 1];
+    let mut i = 0;
+    while i < n {
+        let x = cell(name(nodes, i));
+        marks[x] = true;
+        i += 1;
+    }
+    marks
+}
+
+// Refusal 8: one sweep over the nodes marks the names, then the marks are read.
 pub fn used_ok(nodes: &[u8], n: usize, m: usize) -> bool
     requires { ⌜ (16 * n ≤ length (now nodes)) × (m ≤ maxNames) ⌝ }
     ensures { λ r. ⌜ r ≡ usedOk (now (nodes .entry)) n m ⌝ }
 {
+    let marks = used(nodes, n);
     let mut k = 0;
     while k < m {
-        if !is_used(nodes, n, k) {
+        if !marks[k + 1] {
             return false;
         }
         k += 1;

@@ -12,14 +12,22 @@ mod timing;
 
 use case::Case;
 use contracts::{SIZES, of_one_name, of_size};
+use timing::best_of_all;
 
 fn main() {
     let timed = SIZES.into_iter().flat_map(of_size).chain(of_one_name());
     let cases: Vec<Case> = timed.map(|timed| Case::of(&timed)).collect();
-    table(passes::TOGETHER, cases.iter().map(passes::together_row));
-    table(passes::ALONE, cases.iter().map(passes::alone_row));
+    let together = best_of_all(&cases, passes::together);
+    table(
+        passes::TOGETHER,
+        cases.iter().zip(together).map(|(case, times)| passes::together_row(case, times)),
+    );
+    let apart = best_of_all(&cases, passes::apart);
+    table(passes::ALONE, cases.iter().zip(apart).map(|(case, times)| passes::alone_row(case, times)));
     let images = admission::images();
-    table(admission::ADMISSION, images.iter().map(|(name, image)| admission::row(name, image)));
+    let times = best_of_all(&images, |(_, image)| admission::times(image));
+    let rows = images.iter().zip(times).map(|((name, image), times)| admission::row(name, image, times));
+    table(admission::ADMISSION, rows);
 }
 
 fn table(head: &str, rows: impl Iterator<Item = String>) {

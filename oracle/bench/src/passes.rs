@@ -1,6 +1,6 @@
 //! The three passes: all of them with one admission, and each alone.
 
-use crate::admission::{admission, read, unused_first};
+use crate::admission::{admission, read};
 use crate::case::{Case, alone};
 use crate::timing::{Work, interleaved};
 use quanta_ast::Contract;
@@ -11,38 +11,30 @@ use reference::Pass;
 use std::hint::black_box;
 
 pub const TOGETHER: &str = "\
-| contract | nodes | one read of the bytes, ns | Rust, ns | port, ns | port / Rust | the test for 8, ns | port without it / Rust |
-|---|---|---|---|---|---|---|---|";
+| contract | nodes | one read of the bytes, ns | Rust, ns | port, ns | port / Rust |
+|---|---|---|---|---|---|";
 
-/// Model and passes of the Rust against admission and passes of the library. The test for 8 still
-/// looks through the nodes name by name, so its part is told apart: an image whose first name is
-/// unused is refused with 8 at the first look, and takes all of admission but that test. Its loop is
-/// so short that its time doubles when the linker lets it cross a line of the processor's cache.
-pub fn together_row(case: &Case) -> String {
-    let unused = unused_first(&case.image).expect("room for a name more");
-    let works: [Work; 5] = [
+/// One read; model and passes of the Rust; admission and passes of the library.
+pub fn together(case: &Case) -> [f64; 3] {
+    let works: [Work; 3] = [
         Box::new(|| read(&case.image)),
         Box::new(|| rust_passes(&case.contract)),
         Box::new(|| port_passes(&case.image)),
-        Box::new(|| admission(&case.image)),
-        Box::new(|| admission(&unused)),
     ];
-    let [read, rust, port, whole, rest] = interleaved(&works);
-    let eight = whole - rest;
-    let (ratio, without) = (port / rust, (port - eight) / rust);
-    let (name, nodes) = (case.name, case.nodes);
-    format!(
-        "| {name} | {nodes} | {read:.0} | {rust:.0} | {port:.0} | {ratio:.2} | {eight:.0} | {without:.2} |"
-    )
+    interleaved(&works)
+}
+
+pub fn together_row(case: &Case, [read, rust, port]: [f64; 3]) -> String {
+    let (name, nodes, ratio) = (case.name, case.nodes, port / rust);
+    format!("| {name} | {nodes} | {read:.0} | {rust:.0} | {port:.0} | {ratio:.2} |")
 }
 
 pub const ALONE: &str = "\
 | contract | nodes | admission, ns | `Model::build`, ns | resolve: Rust, ns | port, ns | access: Rust, ns | port, ns | linear: Rust, ns | port, ns |
 |---|---|---|---|---|---|---|---|---|---|";
 
-/// Each pass alone. The library admits the image in each call, so what admission takes is taken
-/// off; the Rust has its model beforehand, whose making has a column of its own.
-pub fn alone_row(case: &Case) -> String {
+/// Admission, the Rust's model, and each pass alone: the Rust's, then the library's.
+pub fn apart(case: &Case) -> [f64; 8] {
     let model = &Model::build(&case.contract);
     let of_rust = |pass| -> Work { Box::new(move || accepts(rust_pass(pass, model))) };
     let of_port =
@@ -57,7 +49,12 @@ pub fn alone_row(case: &Case) -> String {
         of_rust(Pass::Linear),
         of_port(Pass::Linear),
     ];
-    let [admission, model, passes @ ..] = interleaved(&works);
+    interleaved(&works)
+}
+
+/// The library admits the image in each call, so what admission takes is taken off; the Rust has its
+/// model beforehand, whose making has a column of its own.
+pub fn alone_row(case: &Case, [admission, model, passes @ ..]: [f64; 8]) -> String {
     let mut row = format!("| {} | {} | {admission:.0} | {model:.0} |", case.name, case.nodes);
     for pass in passes.chunks(2) {
         let (rust, port) = (pass[0], pass[1] - admission);

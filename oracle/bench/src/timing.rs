@@ -4,7 +4,9 @@
 use std::hint::black_box;
 use std::time::{Duration, Instant};
 
-const ROUNDS: usize = 300;
+/// How often all rows are gone over, so that a slower minute falls on none of them alone.
+const GOES: usize = 6;
+const ROUNDS: usize = 50;
 /// Short, since a round only counts where nothing else took the processor while it ran.
 const ROUND: Duration = Duration::from_millis(1);
 
@@ -18,6 +20,18 @@ pub fn interleaved<const N: usize>(works: &[Work; N]) -> [f64; N] {
     for _ in 0..ROUNDS {
         for ((work, repeats), best) in works.iter().zip(&repeats).zip(&mut best) {
             *best = best.min(nanoseconds(work, *repeats));
+        }
+    }
+    best
+}
+
+/// The best that each row's times come to, in several goes over all rows.
+pub fn best_of_all<Row, const N: usize>(rows: &[Row], times: impl Fn(&Row) -> [f64; N]) -> Vec<[f64; N]> {
+    let mut best = vec![[f64::INFINITY; N]; rows.len()];
+    for _ in 0..GOES {
+        for (row, best) in rows.iter().zip(&mut best) {
+            let times = times(row);
+            *best = std::array::from_fn(|k| best[k].min(times[k]));
         }
     }
     best

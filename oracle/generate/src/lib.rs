@@ -21,7 +21,7 @@ mod wild;
 
 pub use damage::damaged;
 pub use fill::fill;
-pub use limits::{Limit, largest, limits};
+pub use limits::{Limit, largest, limits, of_names};
 pub use node::{Node, ident, leaf, name, node, number};
 pub use parts::Parts;
 pub use rng::Rng;

@@ -59,7 +59,7 @@ fn padded(prefix: &str, k: usize, length: usize) -> String {
 
 /// A contract whose one entry has a Writes clause of these names, filled up to `nodes` nodes with
 /// the first of them.
-fn of_names(names: &[String], nodes: usize) -> Node {
+pub fn of_names(names: &[String], nodes: usize) -> Node {
     let rest = nodes - 5;
     let filled = names.iter().cycle().take(rest.max(names.len()));
     let clause = node(kind::WRITES, filled.map(|n| name(n)).collect());

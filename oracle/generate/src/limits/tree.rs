@@ -174,5 +174,29 @@ fn unused() -> Vec<Limit> {
         limit("the first name unused", 8, extra(b"0", 0)),
         limit("the last name unused", 8, extra(b"zz", last)),
         limit("a number text unused", 8, extra(b"22", 1)),
+        limit("each of 1,024 names used, the last by the last node alone", 0, all_names().image()),
+        limit("name 1 of 1,024 unused", 8, but_for(1)),
+        limit("name 512 of 1,024 unused", 8, but_for(512)),
+        limit("name 1,024 of 1,024 unused", 8, but_for(1_024)),
+        limit("name 1,024 used by the first Name alone", 0, moved_to_the_first_name(1_024)),
     ]
+}
+
+/// A contract with as many names as there can be and no node to spare.
+fn all_names() -> Node {
+    of_names(&(0..1_024).map(|k| padded("n", k, 5)).collect::<Vec<_>>(), 1_029)
+}
+
+/// The same, but that the nodes with this name number have a neighbour's.
+fn but_for(number: usize) -> Vec<u8> {
+    let other = if number == 1 { 2 } else { number - 1 };
+    changed(&all_names(), |p| p.nodes.iter_mut().filter(|n| n.name == number).for_each(|n| n.name = other))
+}
+
+/// The same, but that the contract's Name has this number, and the node that had it has 1.
+fn moved_to_the_first_name(number: usize) -> Vec<u8> {
+    changed(&all_names(), |p| {
+        p.nodes.iter_mut().filter(|n| n.name == number).for_each(|n| n.name = 1);
+        p.nodes[1].name = number;
+    })
 }

@@ -1,37 +1,30 @@
--- `class` meets its contract: a byte is of one of the ranges, or in one of the gaps between them.
-use native.Mathlib.Omega.{arith}
-use mathlib.Core.Path.{sym, ap}
+-- `class` meets its contract: the tests of the definition, in its order.
+use mathlib.Core.Path.{_∙_, sym}
+use borrow.Author.Needs.{needs}
+use borrow.Author.Tests.{eq-eqb, ne-eqb}
 use Rattle.image.specs.Text.{classOf}
-use Rattle.image.proofs.Text.{class-small, class-large, class-digit, class-under, class-over, class-between, class-beyond}
 use Rattle.image.proofs.names.class.Statement.{statement}
 use Rattle.image.proofs.names.class.Tie as tie
 
 returns : tie.Need-returns
 unfolding classOf
-returns c = sym (ap classOf (c .match .keys1))
+returns c = simp (sym (c .before .among .ensures) ∙ c .if1 .taken)
 
 returns-2 : tie.Need-returns-2
-returns-2 c = sym (class-digit (c .before .before .before .args .b) (c .before .if1 .left) (omega arith))
+unfolding classOf
+returns-2 c = simp (sym (c .before .before .before .among .ensures) ∙ c .before .before .if1 .left, sym (c .before .among2 .ensures) ∙ c .if2 .taken)
 
 returns-3 : tie.Need-returns-3
-returns-3 c = sym (class-large (c .before .before .before .before .before .args .b) (c .before .if3 .left) (omega arith))
+unfolding classOf
+returns-3 c = simp (sym (c .before .before .before .before .among .ensures) ∙ c .before .before .before .if1 .left, sym (c .before .before .among2 .ensures) ∙ c .before .if2 .left, eq-eqb _ _ (c .if3 .taken))
 
 returns-4 : tie.Need-returns-4
-returns-4 c = sym (class-small (c .before .before .before .before .before .before .before .args .b) (c .before .if5 .left) (omega arith))
+unfolding classOf
+returns-4 c = simp (sym (c .before .before .before .before .before .before .among .ensures) ∙ c .before .before .before .before .before .if1 .left, sym (c .before .before .before .before .among2 .ensures) ∙ c .before .before .before .if2 .left, ne-eqb _ _ (c .before .before .if3 .left), sym (c .before .among3 .ensures) ∙ c .if4 .taken)
 
 returns-5 : tie.Need-returns-5
-returns-5 c = sym (class-under _ (c .if1 .taken))
-
-returns-6 : tie.Need-returns-6
-returns-6 c = sym (class-over _ (c .before .if2 .left) (c .if3 .taken))
-
-returns-7 : tie.Need-returns-7
-returns-7 c = sym (class-between _ (c .before .if4 .left) (c .if5 .taken) (c .before .before .before .before .before .match .rest .1))
-
-returns-8 : tie.Need-returns-8
-returns-8 c = sym (class-beyond _ (c .if6 .left))
+unfolding classOf
+returns-5 c = simp (sym (c .before .before .before .before .before .before .among .ensures) ∙ c .before .before .before .before .before .if1 .left, sym (c .before .before .before .before .among2 .ensures) ∙ c .before .before .before .if2 .left, ne-eqb _ _ (c .before .before .if3 .left), sym (c .before .among3 .ensures) ∙ c .if4 .left)
 
 pub class-spec : {M : Type 1} → statement M
-class-spec =
-    tie.close
-    (tie.spec returns returns-2 returns-3 returns-4 returns-5 returns-6 returns-7 returns-8)
+class-spec = tie.close (tie.spec (λ c κs. search needs) returns (λ c κs. search needs) returns-2 returns-3 (λ c κs. search needs) returns-4 returns-5)

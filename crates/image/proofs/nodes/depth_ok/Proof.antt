@@ -36,7 +36,7 @@ grown c =
     let i = c .before .before .loop .i in
     let past : (j : ℕ) → j < c .before .before .before .before .args .n → j < endOf (c .before .before .before .before .args .nodes .now) j = λ j h. c .before .before .before .before .pre .2 j h .0 in
     let a = closed-more (c .before .before .before .before .args .nodes .now) (c .before .before .before .before .args .n) i in
-    let t = c .before .before .loop .inv .3 .tally i (omega arith) in
+    let t = c .before .before .loop .inv .3 .cell i (omega arith) in
     let u = ended-here (c .before .before .before .before .args .nodes .now) (c .before .before .before .before .args .n) i (omega arith) past in
     let b = ancestors-are (c .before .before .before .before .args .nodes .now) (c .before .before .before .before .args .n) i (omega arith) past in
     omega arith
@@ -63,7 +63,7 @@ array-read-ends : tie.Need-array-read-ends Inv-loop μ-loop
 array-read-ends c = let h = inside c in omega arith
 
 add-ends : tie.Need-add-ends Inv-loop μ-loop
-add-ends c = let h = inside c in omega (arith, c .before .before .before .before .loop .inv .3 .tally (c .end .result) (omega arith), count-le (endsAt (c .before .before .before .before .before .before .args .nodes .now) (c .end .result)) (c .before .before .before .before .loop .i))
+add-ends c = let h = inside c in omega (arith, c .before .before .before .before .loop .inv .3 .cell (c .end .result) (omega arith), count-le (endsAt (c .before .before .before .before .before .before .args .nodes .now) (c .end .result)) (c .before .before .before .before .loop .i))
 
 mul-ends-2 : tie.Need-mul-ends-2 Inv-loop μ-loop
 mul-ends-2 c = let h = inside c in omega arith
