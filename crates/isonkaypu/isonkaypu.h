@@ -33,10 +33,11 @@
 #include <stdint.h>
 
 /*
- * Bytes of stack that are enough for any call, with room to spare. Measured on x86-64, by painting
- * a thread's stack and looking how far down a call had written: 37,352 bytes at most, over the
- * images at every limit of document 01, its patterns and 20,000 generated images. No function calls
- * itself and the frames are of fixed size, so the need does not grow with the image.
+ * Bytes of stack that are enough for any call, with room to spare. Measured by painting a stack and
+ * looking how far down a call had written, over the images at every limit of document 01, its
+ * patterns, the benchmark's contracts and generated images: 39,080 bytes at most on x86-64 (under an
+ * emulator, 1,000 generated images), 38,864 on aarch64 (20,000). No function calls itself and the
+ * frames are of fixed size, so the need does not grow with the image.
  */
 #define ISONKAYPU_STACK 65536
 

@@ -6,18 +6,18 @@ use mathlib.Core.List.{List}
 use native.Mathlib.Omega.{arith}
 use Rattle.rules.specs.Sweep.{run}
 use lib.ListN.{replicate}
-use Rattle.image.specs.Admit.{nodeCount}
+use Rattle.image.specs.Admit.{refusal}
 use Rattle.rules.specs.Tree.{assign, call}
-use Rattle.rules.specs.Model.{isState}
 use Rattle.rules.specs.Access.{assignRule, callRule, statementRules}
 use Rattle.records.proofs.Sweep.{keep-one, has-one, has-not}
 use Rattle.nodes.specs.Shown.{View, Shown, In, treeOf}
-use Rattle.nodes.specs.Marks.{Marks, Made}
+use Rattle.nodes.specs.Marks.{Marks}
 use Rattle.nodes.specs.First.{Starts}
 use Rattle.nodes.proofs.Names.{marks-none}
-use Rattle.nodes.proofs.Heads.{view-of, root-of}
 use Rattle.nodes.proofs.Flat.{flat, not-assign}
 use Rattle.nodes.specs.State.{State}
+use Rattle.names.specs.declared.Words.{Words}
+use Rattle.names.specs.Spelled.{MethodsOf, Looked}
 use Rattle.access.specs.Seen.{AccessTables, WritingBody, writtenIn, isWriter, at51, item51}
 
 -- what the scan of the statements is lent
@@ -44,16 +44,18 @@ entry-51 {e = e} W i z k S =
     flat W i z k S assign call not-assign (λ j l h. has-not j 43 (λ d. omega arith)) (assignRule (treeOf W) e) (callRule (treeOf W) e)
     ∙ sym (keep-one _ e (has-one _ 9 k))
 
--- what the pass is lent, from fresh tables
-module _ {s nodes : List ℕ} (S : Shown s nodes 0 (nodeCount s)) {state : List Bool} (f : Made isState nodes (replicate 1024 false) state) where
-  abbrev pub state-of : State nodes 0 state
-  state-of = record { view = view-of S; state-marks = f (view-of S) (marks-none s (S .admitted)) }
+-- what the groups are lent, from what the pass is lent and fresh tables
+abbrev pub state-of : {nodes : List ℕ} {words : Words} {state : List Bool} → Looked nodes words state → State nodes 0 state
+state-of T = record { view = T .view; state-marks = T .state-marks }
 
-  abbrev pub tables-of : {writer : List Bool} → (Marks s (λ w. false) (replicate 1024 false) → Marks s isWriter writer) → AccessTables nodes state writer (replicate 1024 false)
-  tables-of g = record {
-    view = view-of S;
-    root = root-of S;
-    state-marks = state-of .state-marks;
-    writer-marks = g (marks-none s (S .admitted));
-    clean = marks-none s (S .admitted);
-  }
+abbrev pub tables-of : {nodes : List ℕ} {words : Words} {state writer : List Bool} (T : Looked nodes words state) → ((s : List ℕ) → refusal s ≡ 0 → MethodsOf s (words .methods) → Marks s (λ w. false) (replicate 1024 false) → Marks s isWriter writer) → AccessTables nodes state writer (replicate 1024 false)
+tables-of T g =
+    let s = T .view .image in
+    let a = T .view .shown .admitted in
+    record {
+      view = T .view;
+      root = T .root;
+      state-marks = T .state-marks;
+      writer-marks = g s a (T .words-are .methods-are) (marks-none s a);
+      clean = marks-none s a;
+    }

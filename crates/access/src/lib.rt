@@ -1,7 +1,10 @@
 // The access pass: codes 50 and 51 of document 01, as the pass's part of the list.
 use image::Image;
+use names::Methods;
+use names::Words;
 use nodes::ASSIGN;
 use nodes::CALL;
+use nodes::Cursor;
 use nodes::ENTRY;
 use nodes::IDENT;
 use nodes::INVARIANT;
@@ -11,15 +14,18 @@ use nodes::WRITES;
 ghost use mathlib.Core.Path.{_≡_};
 ghost use mathlib.Core.Bool.{Bool, false};
 ghost use mathlib.Core.List.{List};
-ghost use Prim.Native.Nat.{_*_, _<_, _^_};
+ghost use Prim.Native.Nat.{ℕ, _*_, _<_, _^_};
+ghost use Rattle.image.specs.Admit.{refusal};
 ghost use Rattle.rules.specs.Sweep.{also, has};
-ghost use Rattle.rules.specs.Tree.{tree, writes};
+ghost use Rattle.rules.specs.Tree.{writes};
 ghost use Rattle.rules.specs.Access.{group50, isWrite, group51, access};
 ghost use Rattle.records.specs.Words.{old, new};
 ghost use Rattle.records.specs.Records.{Adds, Asks};
-ghost use Rattle.nodes.specs.Shown.{View, In, Admitted, treeOf};
+ghost use Rattle.nodes.specs.Shown.{View, In, treeOf};
 ghost use Rattle.nodes.specs.Marks.{Marks, Turns};
+ghost use Rattle.nodes.specs.First.{Head};
 ghost use Rattle.nodes.specs.State.{State, seen};
+ghost use Rattle.names.specs.Spelled.{MethodsOf, Looked, looked};
 ghost use Rattle.access.specs.Seen.{AccessTables, Writing, WritingBody, seenAccess, seenIn, swept51, CleansWritten, at50, item50, at51, item51, clauseHas, writtenIn, isWriter};
 
 // 50 at a node of an Invariant: an Ident that is no state name.
@@ -56,12 +62,16 @@ fn group50(nodes: &[u8], state: &Marks, out: &mut [u16], count: usize) -> usize
     requires { ⌜ State (now nodes) 0 (now state) × In (now nodes) 0 0 × (count < 2 ^ 40) ⌝ }
     ensures { λ r. ⌜ Adds (seen group50 nodes 0 state) (2048 * 2048) out count r ⌝ }
 {
-    let end = nodes::end(nodes, 0, 0);
+    let to = nodes::end(nodes, 0, 0);
     let mut total = count;
-    let mut p = 1;
-    while p < end {
-        total = invariant(nodes, p, state, out, total);
-        p = nodes::end(nodes, 0, p);
+    let mut children = Cursor {
+        base: 0,
+        at: 1,
+        end: to,
+    };
+    while children.at < children.end {
+        total = invariant(nodes, children.at, state, out, total);
+        children = children.step(nodes).rest;
     }
     total
 }
@@ -82,16 +92,19 @@ fn mark_clause(nodes: &[u8], clause: usize, on: bool, written: &mut Marks)
     }
 }
 
-// The marks of the names that the Writes clauses of an entry have are set, or taken off.
-fn declared_writes(nodes: &[u8], entry: usize, on: bool, written: &mut Marks)
-    requires { ⌜ View (now nodes) 0 × In (now nodes) 0 entry × (0 < entry) ⌝ }
+// The marks of the names that the Writes clauses of an entry have are set, or taken off, by a walk over its children before `to`, its first statement.
+fn declared_writes(nodes: &[u8], entry: usize, to: usize, on: bool, written: &mut Marks)
+    requires { ⌜ Head (now nodes) 0 entry to ⌝ }
     ensures { λ _. ⌜ Turns on (λ (W : View (old nodes) 0). writtenIn (treeOf W) entry) written ⌝ }
 {
-    let end = nodes::end(nodes, 0, entry);
-    let mut p = entry + 1;
-    while p < end {
-        mark_clause(nodes, p, on, written);
-        p = nodes::end(nodes, 0, p);
+    let mut children = Cursor {
+        base: 0,
+        at: entry + 1,
+        end: to,
+    };
+    while children.at < children.end {
+        mark_clause(nodes, children.at, on, written);
+        children = children.step(nodes).rest;
     }
 }
 
@@ -183,11 +196,11 @@ fn entry(
     if nodes::kind(nodes, 0, item) != ENTRY {
         return count;
     }
-    declared_writes(nodes, item, true, written);
     let first = nodes::first_statement(nodes, 0, item);
+    declared_writes(nodes, item, first, true, written);
     let body = nodes::statements(nodes, 0, item, first);
     let total = statements(body, first, state, writer, written, out, count);
-    declared_writes(nodes, item, false, written);
+    declared_writes(nodes, item, first, false, written);
     total
 }
 
@@ -203,41 +216,42 @@ fn group51(
     requires { ⌜ AccessTables (now nodes) (now state) (now writer) (now written) × (count < 2 ^ 40) ⌝ }
     ensures { λ r. ⌜ Adds (seenAccess group51 nodes state writer written) (2048 * 2048) out count r ⌝ }
 {
-    let end = nodes::end(nodes, 0, 0);
+    let to = nodes::end(nodes, 0, 0);
     let mut total = count;
-    let mut p = 1;
-    while p < end {
-        total = entry(nodes, p, state, writer, written, out, total);
-        p = nodes::end(nodes, 0, p);
+    let mut children = Cursor {
+        base: 0,
+        at: 1,
+        end: to,
+    };
+    while children.at < children.end {
+        total = entry(nodes, children.at, state, writer, written, out, total);
+        children = children.step(nodes).rest;
     }
     total
 }
 
-// The marks of the words that write their base.
-fn mark_writers(image: &[u8], head: Image, writer: &mut Marks)
-    requires { ⌜ Admitted (now image) head ⌝ }
-    ensures { λ _. ⌜ (Marks (old image) (λ w. false) (old writer) → Marks (old image) isWriter (new writer)) ⌝ }
+// The marks of the words that write their base, by their numbers.
+fn mark_writers(words: Methods, writer: &mut Marks)
+    requires { ⌜ ((s : List ℕ) × (refusal s ≡ 0) × MethodsOf s words) ⌝ }
+    ensures { λ _. ⌜ ((s : List ℕ) → refusal s ≡ 0 → MethodsOf s words → Marks s (λ w. false) (old writer) → Marks s isWriter (new writer)) ⌝ }
 {
-    names::mark_word(image, head, b"merge", writer);
-    names::mark_word(image, head, b"split", writer);
-    names::mark_word(image, head, b"credit", writer);
-    names::mark_word(image, head, b"debit", writer);
-    names::mark_word(image, head, b"insert", writer);
-    names::mark_word(image, head, b"remove", writer);
-    names::mark_word(image, head, b"set", writer);
+    names::mark_number(words.merge, writer);
+    names::mark_number(words.split, writer);
+    names::mark_number(words.credit, writer);
+    names::mark_number(words.debit, writer);
+    names::mark_number(words.insert, writer);
+    names::mark_number(words.remove, writer);
+    names::mark_number(words.set, writer);
 }
 
-// The records of the access pass of an admitted image, from the buffer's start.
-pub fn list(image: &[u8], head: Image, out: &mut [u16]) -> usize
-    requires { ⌜ Admitted (now image) head ⌝ }
-    ensures { λ r. ⌜ Adds (λ (_ : Unit {0}). access (tree (old image))) (2 * 2048 * 2048) out 0 r ⌝ }
+// The records of the access pass, from the buffer's start: the words are looked up, and the state names marked.
+pub fn list(nodes: &[u8], words: Words, state: &Marks, out: &mut [u16]) -> usize
+    requires { ⌜ Looked (now nodes) words (now state) ⌝ }
+    ensures { λ r. ⌜ Adds (looked access nodes words state) (2 * 2048 * 2048) out 0 r ⌝ }
 {
-    let nodes = nodes::area(image, head);
-    let mut state = [false; Image::NAMES];
-    model::mark_state(nodes, &mut state);
     let mut writer = [false; Image::NAMES];
-    mark_writers(image, head, &mut writer);
+    mark_writers(words.methods, &mut writer);
     let mut written = [false; Image::NAMES];
-    let count = group50(nodes, &state, out, 0);
-    group51(nodes, &state, &writer, &mut written, out, count)
+    let count = group50(nodes, state, out, 0);
+    group51(nodes, state, &writer, &mut written, out, count)
 }

@@ -1,138 +1,148 @@
--- The code's numbers for rows and kinds (specs/Digits.antt), read: the next part, the rest, and the facts of a kind.
-use Prim.Native.Nat.{ℕ, _+_, _*_, _/_, _%_, _<_, _≤_}
+-- The code's numbers for rows and kinds (specs/Digits.antt), read: the states of the rows, and the facts of a kind.
+use Prim.Native.Nat.{ℕ, zero, suc, _+_, _*_, _-_, _/_, _%_, _<_, _≤_}
 use mathlib.Core.Path.{_≡_, refl, ap, _∙_, sym}
-use mathlib.Core.Bool.{Bool, true, false}
+use mathlib.Core.Bool.{Bool, true, false, Bool·beq, true≢false}
 use mathlib.Core.Logic.{⊎-elim}
 use native.Mathlib.Omega.{arith}
-use borrow.Author.Tests.{ltb-true, eqb-true, le-ltb, ne-eqb}
-use lib.Dec.{ltb, eqb}
-use lib.ListN.{getD, List·getD-eq-default}
+use borrow.Author.Tests.{ltb-true, eqb-true, le-ltb, lt-ltb, ne-eqb}
+use lib.Dec.{ltb, leb, eqb}
+use mathlib.Core.List.{List}
+use lib.ListN.{getD, set, List·getD-eq-default}
 use Rattle.image.specs.Pick.{pick, both, every}
-use Rattle.image.specs.Digits.{families, familyOf, partAt, takes, placeAfter, ends, rowOf, rowEnd, never, restFrom, restAt, kindFacts, kindsFrom, kindTable}
+use Rattle.image.specs.Digits.{families, familyOf, partAt, takes, afterFrom, placeAfter, endsFrom, ends, rowOf, states, stateOf, laidBelow, nextStates, Leads, nextState, mayEnd, kindFacts, kindsFrom, kindTable}
 use Rattle.image.specs.Tree.{carries}
 use Rattle.image.proofs.Decide.{lt-or-ge}
 use Rattle.image.proofs.Every.{both-left, both-right, every-at}
-use Rattle.image.proofs.Rows.{nothing, stays, moves, fails-one, fails-end, skips, stops, refuses, passes, done, done-end}
+use Rattle.image.proofs.Rows.{nothing, fails-one, done, done-end}
 
--- what the table is to say of place q
+-- within n places from q on there stands a part that may not be left out, or a row's end
+stopsIn : ℕ → ℕ → Bool
+stopsIn zero q = false
+stopsIn (suc n) q = pick (eqb (partAt q % 4) 3) true (pick (eqb (partAt q % 4) 0) true (stopsIn n (q + 1)))
+
+-- so no more turns are needed
+module _ (q f : ℕ) where
+  taking : ℕ → ℕ
+  taking x = pick (takes (partAt q) f) (pick (eqb (partAt q % 4) 2) q (q + 1)) (pick (both (leb 1 (partAt q % 4)) (leb (partAt q % 4) 2)) x 0)
+
+  taking-same : (a b : Bool) (x y : ℕ) (s : Bool) → eqb (partAt q % 4) 3 ≡ a → eqb (partAt q % 4) 0 ≡ b → pick a true (pick b true s) ≡ true → (s ≡ true → x ≡ y) → taking x ≡ taking y
+  unfolding taking
+  taking-same true b x y s u v t g = rw (eqb-true (partAt q % 4) 3 u) refl
+  taking-same false true x y s u v t g = rw (eqb-true (partAt q % 4) 0 v) refl
+  taking-same false false x y s u v t g = ap taking (g t)
+
+  closing : Bool → Bool
+  closing x = pick (eqb (partAt q % 4) 3) true (pick (eqb (partAt q % 4) 0) false x)
+
+  closing-same : (a b : Bool) (x y s : Bool) → eqb (partAt q % 4) 3 ≡ a → eqb (partAt q % 4) 0 ≡ b → pick a true (pick b true s) ≡ true → (s ≡ true → x ≡ y) → closing x ≡ closing y
+  unfolding closing
+  closing-same true b x y s u v t g = simp u
+  closing-same false true x y s u v t g = simp (u, v)
+  closing-same false false x y s u v t g = ap closing (g t)
+
+after-more : (n k q f : ℕ) → n ≤ k → stopsIn n q ≡ true → afterFrom k q f ≡ afterFrom n q f
+unfolding stopsIn afterFrom taking
+after-more zero k q f l e = absurd (true≢false (sym e))
+after-more (suc n) zero q f l e = absurd (omega arith)
+after-more (suc n) (suc k) q f l e = taking-same q f (eqb (partAt q % 4) 3) (eqb (partAt q % 4) 0) _ _ (stopsIn n (q + 1)) refl refl e (λ t. after-more n k (q + 1) f (omega arith) t)
+
+ends-more : (n k q : ℕ) → n ≤ k → stopsIn n q ≡ true → endsFrom k q ≡ endsFrom n q
+unfolding stopsIn endsFrom closing
+ends-more zero k q l e = absurd (true≢false (sym e))
+ends-more (suc n) zero q l e = absurd (omega arith)
+ends-more (suc n) (suc k) q l e = closing-same q 0 (eqb (partAt q % 4) 3) (eqb (partAt q % 4) 0) _ _ (stopsIn n (q + 1)) refl refl e (λ t. ends-more n k (q + 1) (omega arith) t)
+
+-- what the states are to say of place q, and of a child of family f there
+turns : ℕ → ℕ
+turns q = pick (ltb q 226) 5 1
+
+familyAt : ℕ → ℕ → Bool
+familyAt q f = eqb (nextState (stateOf q) f) (stateOf (afterFrom (turns q) q f))
+
 ruleAt : ℕ → Bool
-ruleAt q =
-    pick (eqb (partAt q) rowEnd) (eqb (restAt q) 0)
-    (pick (eqb (partAt q) never) (eqb (restAt q) never)
-    (both (ltb 0 (partAt q)) (both (ltb (partAt q % 4) 3) (both (eqb (restAt q % 1024) (partAt q)) (eqb (restAt q / 1024) (restAt (q + 1)))))))
+ruleAt q = both (stopsIn (turns q) q) (both (Bool·beq (endsFrom (turns q) q) (mayEnd (stateOf q))) (both (ltb (stateOf q) 31) (every (familyAt q) 16)))
 
 rules-hold : every ruleAt 230 ≡ true
-unfolding every ruleAt restAt restFrom partAt
+unfolding every ruleAt familyAt turns stopsIn afterFrom endsFrom partAt states stateOf laidBelow nextStates
 rules-hold = refl
 
--- where a row stands at place q, by what is left of it: at its end; where nothing fits; or at a part, with the rest behind it
-data Place (q rest : ℕ) : Type 0 where
-  over : q < 230 → 63 ≡ partAt q → rest ≡ 0 → Place q rest
-  stuck : rest ≡ 60 → ((f : ℕ) → placeAfter q f ≡ 0) → ends q ≡ false → Place q rest
-  here : q < 230 → rest % 1024 ≡ partAt q → 0 < partAt q → partAt q % 4 < 3 → rest / 1024 ≡ restAt (q + 1) → Place q rest
+beq-so : (a b : Bool) → Bool·beq a b ≡ true → a ≡ b
+beq-so true true e = refl
+beq-so true false e = absurd (true≢false (sym e))
+beq-so false true e = absurd (true≢false (sym e))
+beq-so false false e = refl
 
-rest-past : (q : ℕ) → 230 ≤ q → restAt q ≡ 60
-unfolding restAt
-rest-past q h = simp (le-ltb q 230 h)
+turns-few : (q : ℕ) → q < 230 → turns q ≤ 230 - q
+unfolding turns
+turns-few q l = ⊎-elim (λ (h : q < 226). rw (lt-ltb q 226 h) (omega arith)) (λ (h : 226 ≤ q). rw (le-ltb q 226 h) (omega arith)) (lt-or-ge q 226)
 
-place-of : (q rest : ℕ) → rest ≡ restAt q → Place q rest
-unfolding ruleAt
-place-of q rest is = ⊎-elim inside (λ (h : 230 ≤ q). stuck (is ∙ rest-past q h) (λ f. done q f h) (done-end q h)) (lt-or-ge q 230)
-  where
-    part : q < 230 → (a b : Bool) → eqb (partAt q) 63 ≡ a → eqb (partAt q) 60 ≡ b → pick a (eqb (restAt q) 0) (pick b (eqb (restAt q) 60) (both (ltb 0 (partAt q)) (both (ltb (partAt q % 4) 3) (both (eqb (restAt q % 1024) (partAt q)) (eqb (restAt q / 1024) (restAt (q + 1))))))) ≡ true → Place q rest
-    part l true b x y t = over l (sym (eqb-true (partAt q) 63 x)) (is ∙ eqb-true _ 0 t)
-    part l false true x y t =
-        let z = sym (eqb-true (partAt q) 60 y) in
-        stuck (is ∙ eqb-true _ 60 t) (λ f. fails-one q f 60 l z (nothing 60 f refl refl) (omega arith)) (refuses q 60 l z (omega arith) refl)
-    part l false false x y t =
-        let u = both-right (ltb 0 (partAt q)) _ t in
-        let v = both-right (ltb (partAt q % 4) 3) _ u in
-        here l (ap (λ (n : ℕ). n % 1024) is ∙ eqb-true _ _ (both-left (eqb (restAt q % 1024) (partAt q)) _ v)) (ltb-true _ _ (both-left (ltb 0 (partAt q)) _ t)) (ltb-true _ _ (both-left (ltb (partAt q % 4) 3) _ u)) (ap (λ (n : ℕ). n / 1024) is ∙ eqb-true _ _ (both-right (eqb (restAt q % 1024) (partAt q)) _ v))
+state-none : stateOf 0 ≡ 0
+unfolding stateOf states partAt
+state-none = refl
 
-    inside : q < 230 → Place q rest
-    inside l = part l (eqb (partAt q) 63) (eqb (partAt q) 60) refl refl (every-at ruleAt 230 q rules-hold l)
+state-past : (q : ℕ) → 230 ≤ q → stateOf q ≡ 0
+unfolding stateOf states
+state-past q h = List·getD-eq-default states 0 h
 
-rest-dead : restAt 0 ≡ 60
-unfolding restAt restFrom partAt
-rest-dead = refl
+none-after : (f : ℕ) → placeAfter 0 f ≡ 0
+unfolding partAt
+none-after f = fails-one 0 f 60 (omega arith) refl (nothing 60 f refl refl) (omega arith)
 
-nowhere : (q f : ℕ) → placeAfter q f ≡ 0 → 60 ≡ restAt (placeAfter q f)
-nowhere q f e = sym (ap restAt e ∙ rest-dead)
+module _ (q : ℕ) (l : q < 230) where
+  stops : stopsIn (turns q) q ≡ true
+  unfolding ruleAt
+  stops = both-left (stopsIn (turns q) q) _ (every-at ruleAt 230 q rules-hold l)
 
--- one step along a row, from the tests that the code makes on what is left of it
-module _ (q f rest : ℕ) (is : rest ≡ restAt q) where
-  pub next-stays : 0 < rest → takes (rest % 1024) f ≡ true → rest % 1024 % 4 ≡ 2 → rest ≡ restAt (placeAfter q f)
-  next-stays l t m = go (place-of q rest is)
-    where
-      go : Place q rest → rest ≡ restAt (placeAfter q f)
-      go (over i p z) = absurd (omega arith)
-      go (stuck z a b) = let e : rest % 1024 ≡ 60 = ap (λ (n : ℕ). n % 1024) z in absurd (omega arith)
-      go (here i p x y n) = is ∙ ap restAt (sym (stays q f (rest % 1024) i p t m))
+  rest : both (Bool·beq (endsFrom (turns q) q) (mayEnd (stateOf q))) (both (ltb (stateOf q) 31) (every (familyAt q) 16)) ≡ true
+  unfolding ruleAt
+  rest = both-right (stopsIn (turns q) q) _ (every-at ruleAt 230 q rules-hold l)
 
-  pub next-moves : 0 < rest → takes (rest % 1024) f ≡ true → (rest % 1024 % 4 ≡ 2 → ⊥) → rest / 1024 ≡ restAt (placeAfter q f)
-  next-moves l t m = go (place-of q rest is)
-    where
-      go : Place q rest → rest / 1024 ≡ restAt (placeAfter q f)
-      go (over i p z) = absurd (omega arith)
-      go (stuck z a b) = let e : takes (rest % 1024) f ≡ takes 60 f = ap (λ (n : ℕ). takes (n % 1024) f) z in let w : _≡_ {A = Bool} true false = sym t ∙ e ∙ nothing 60 f refl refl in let v : _≡_ {A = ℕ} 0 1 = cc in absurd (omega arith)
-      go (here i p x y n) = n ∙ ap restAt (sym (moves q f (rest % 1024) i p t m))
+  ends-in : ends q ≡ mayEnd (stateOf q)
+  ends-in = ends-more (turns q) (230 - q) q (turns-few q l) stops ∙ beq-so _ _ (both-left (Bool·beq (endsFrom (turns q) q) (mayEnd (stateOf q))) _ rest)
 
-  pub next-fails : 0 < rest → takes (rest % 1024) f ≡ false → rest % 1024 % 4 ≡ 0 → 60 ≡ restAt (placeAfter q f)
-  next-fails l t m = go (place-of q rest is)
-    where
-      go : Place q rest → 60 ≡ restAt (placeAfter q f)
-      go (over i p z) = absurd (omega arith)
-      go (stuck z a b) = nowhere q f (a f)
-      go (here i p x y n) = nowhere q f (fails-one q f (rest % 1024) i p t (omega arith))
+  small-in : stateOf q < 31
+  small-in = ltb-true _ _ (both-left (ltb (stateOf q) 31) _ (both-right (Bool·beq (endsFrom (turns q) q) (mayEnd (stateOf q))) _ rest))
 
-  pub next-skips : 0 < rest → takes (rest % 1024) f ≡ false → (rest % 1024 % 4 ≡ 0 → ⊥) → (rest / 1024 ≡ restAt (q + 1)) × (placeAfter q f ≡ placeAfter (q + 1) f)
-  next-skips l t m = go (place-of q rest is)
-    where
-      go : Place q rest → (rest / 1024 ≡ restAt (q + 1)) × (placeAfter q f ≡ placeAfter (q + 1) f)
-      go (over i p z) = absurd (omega arith)
-      go (stuck z a b) = let e : rest % 1024 ≡ 60 = ap (λ (n : ℕ). n % 1024) z in absurd (omega (arith, m))
-      go (here i p x y n) = (n, skips q f (rest % 1024) i p t (omega (arith, m)) (omega arith))
+  next-in : (f : ℕ) → f < 16 → nextState (stateOf q) f ≡ stateOf (placeAfter q f)
+  unfolding familyAt
+  next-in f h =
+      eqb-true _ _ (every-at (familyAt q) 16 f (both-right (ltb (stateOf q) 31) _ (both-right (Bool·beq (endsFrom (turns q) q) (mayEnd (stateOf q))) _ rest)) h)
+      ∙ ap stateOf (sym (after-more (turns q) (230 - q) q f (turns-few q l) stops))
 
-  pub next-over : rest ≤ 0 → 60 ≡ restAt (placeAfter q f)
-  next-over l = go (place-of q rest is)
-    where
-      go : Place q rest → 60 ≡ restAt (placeAfter q f)
-      go (over i p z) = nowhere q f (fails-end q f 63 i p (nothing 63 f refl refl) (omega arith))
-      go (stuck z a b) = absurd (omega arith)
-      go (here i p x y n) = absurd (omega arith)
+-- a place and its state go on alike
+pub state-ends : (q : ℕ) → ends q ≡ mayEnd (stateOf q)
+state-ends q = ⊎-elim (ends-in q) (λ (h : 230 ≤ q). done-end q h ∙ sym (ap mayEnd (state-past q h))) (lt-or-ge q 230)
 
--- whether a row may end, likewise
-module _ (q rest : ℕ) (is : rest ≡ restAt q) where
-  pub end-wants : 0 < rest → rest % 4 ≡ 0 → ends q ≡ false
-  end-wants l m = go (place-of q rest is)
-    where
-      go : Place q rest → ends q ≡ false
-      go (over i p z) = absurd (omega arith)
-      go (stuck z a b) = b
-      go (here i p x y n) = refuses q (rest % 1024) i p (omega arith) (omega arith)
+pub state-small : (q : ℕ) → stateOf q < 31
+state-small q = ⊎-elim (small-in q) (λ (h : 230 ≤ q). let z = state-past q h in omega arith) (lt-or-ge q 230)
 
-  pub end-skips : 0 < rest → (rest % 4 ≡ 0 → ⊥) → (rest / 1024 ≡ restAt (q + 1)) × (ends q ≡ ends (q + 1))
-  end-skips l m = go (place-of q rest is)
-    where
-      go : Place q rest → (rest / 1024 ≡ restAt (q + 1)) × (ends q ≡ ends (q + 1))
-      go (over i p z) = absurd (omega arith)
-      go (stuck z a b) = let e : rest % 4 ≡ 0 = ap (λ (n : ℕ). n % 4) z in absurd (omega (arith, m))
-      go (here i p x y n) = (n, passes q (rest % 1024) i p (omega arith) (omega (arith, m)))
+pub state-next : (q f : ℕ) → f < 16 → nextState (stateOf q) f ≡ stateOf (placeAfter q f)
+state-next q f h =
+    ⊎-elim (λ (l : q < 230). next-in q l f h)
+    (λ (l : 230 ≤ q). ap (λ (s : ℕ). nextState s f) (state-past q l ∙ sym state-none) ∙ next-in 0 (omega arith) f h ∙ ap stateOf (none-after f ∙ sym (done q f l)))
+    (lt-or-ge q 230)
 
-  pub end-over : rest ≤ 0 → ends q ≡ true
-  end-over l = go (place-of q rest is)
-    where
-      go : Place q rest → ends q ≡ true
-      go (over i p z) = stops q 63 i p refl
-      go (stuck z a b) = absurd (omega arith)
-      go (here i p x y n) = absurd (omega arith)
+smallAt : ℕ → Bool
+smallAt x = ltb (getD nextStates x 0) 31
+
+smalls-hold : every smallAt 496 ≡ true
+unfolding every smallAt partAt states stateOf afterFrom laidBelow nextStates
+smalls-hold = refl
+
+pub next-small : (x : ℕ) → x < 496 → getD nextStates x 0 < 31
+unfolding smallAt
+next-small x l = ltb-true _ _ (every-at smallAt 496 x smalls-hold l)
+
+-- the table with one transition more
+pub led : {t u v : List ℕ} {s f to : ℕ} → Leads t u s f to → t ≡ v → u ≡ set v (16 * s + f) to
+led {s = s} {f = f} {to = to} l e = l .leads ∙ ap (λ (w : List ℕ). set w (16 * s + f) to) e
 
 -- the table of kinds, at each kind and past them
 tableAt : ℕ → Bool
 tableAt k = both (eqb (getD kindTable k 0) (kindFacts k)) (ltb (familyOf k) 16)
 
 table-holds : every tableAt 46 ≡ true
-unfolding every tableAt kindTable kindsFrom kindFacts restAt restFrom partAt familyOf carries
+unfolding every tableAt kindTable kindsFrom kindFacts stateOf states partAt familyOf carries
 table-holds = refl
 
 pub facts-at : (k : ℕ) → k < 46 → getD kindTable k 0 ≡ kindFacts k
@@ -143,13 +153,13 @@ pub family-past : (k : ℕ) → 46 ≤ k → familyOf k ≡ 0
 unfolding familyOf
 family-past k h = List·getD-eq-default families 0 h
 
-pub facts-past : (k : ℕ) → 46 ≤ k → 3840 ≡ kindFacts k
+pub facts-past : (k : ℕ) → 46 ≤ k → 0 ≡ kindFacts k
 unfolding kindFacts carries
 facts-past k h =
     let a : k ≡ 12 → ⊥ = omega arith in
     let b : k ≡ 23 → ⊥ = omega arith in
     let c : k ≡ 35 → ⊥ = omega arith in
-    simp (family-past k h, ne-eqb k 12 a, ne-eqb k 23 b, ne-eqb k 35 c, le-ltb k 46 h, rest-dead)
+    simp (family-past k h, ne-eqb k 12 a, ne-eqb k 23 b, ne-eqb k 35 c, le-ltb k 46 h, state-none)
 
 -- what the code takes from the facts of a kind
 pub family-small : (k : ℕ) → familyOf k < 16
@@ -167,7 +177,7 @@ carries-small k = go (eqb k 12) (eqb k 23) (eqb k 35)
     go false false false = omega arith
 
 module _ (k r : ℕ) (is : r ≡ kindFacts k) where
-  parts : r ≡ familyOf k + 16 * carries k + 64 * restAt (rowOf k)
+  parts : r ≡ familyOf k + 16 * carries k + 64 * stateOf (rowOf k)
   unfolding kindFacts
   parts = is
 
@@ -177,5 +187,5 @@ module _ (k r : ℕ) (is : r ≡ kindFacts k) where
   pub facts-text : r / 16 % 4 ≡ carries k
   facts-text = let a = parts in let b = family-small k in let c = carries-small k in omega arith
 
-  pub facts-row : r / 64 ≡ restAt (rowOf k)
+  pub facts-row : r / 64 ≡ stateOf (rowOf k)
   facts-row = let a = parts in let b = family-small k in let c = carries-small k in omega arith

@@ -1,4 +1,4 @@
--- A table that a loop over the nodes fills: what stands in each cell after i nodes. Refusal 7 counts in one, refusal 8 marks in one.
+-- A table that a loop over the nodes fills: what stands in each cell after i nodes. Refusal 8 marks in one.
 use Prim.Native.Nat.{ℕ, _+_, _<_}
 use mathlib.Core.Path.{_≡_, _∙_, sym}
 use mathlib.Core.List.{List}

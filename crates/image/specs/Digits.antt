@@ -1,14 +1,17 @@
 -- The packed form that the code reads of Table's rows; nothing that a reader must believe. Families and parts are numbers, the rows are
 -- laid one behind the other with a place for each part, and each kind is one number. proofs/Standing: a walk over the places says what `fits` of Table says.
-use Prim.Native.Nat.{ℕ, zero, suc, _+_, _*_, _-_, _/_, _%_}
+use Prim.Native.Nat.{ℕ, zero, suc, _+_, _*_, _-_, _/_, _%_, _≤_}
+use mathlib.Core.Path.{_≡_}
 use mathlib.Core.List.{List, [], _∷_, _++_}
 use mathlib.Core.Bool.{Bool, true, false}
 use lib.Dec.{ltb, leb, eqb}
-use lib.ListN.{getD}
-use Rattle.image.specs.Pick.{pick, both}
-use Rattle.image.specs.Node.{kindOf, endOf}
+use lib.ListN.{length, getD, set, replicate, drop}
+use Rattle.image.specs.Maxima.{maxNodes, maxNames}
+use Rattle.image.specs.Pick.{pick, both, every}
+use Rattle.image.specs.Node.{half, fullWord, kindOf, nameOf, endOf}
 use Rattle.image.specs.Table.{Family, Names, Items, FieldDecls, EventParameters, Stmts, Clauses, Parameters, Types, IntLits, MofNs, Durations, Expressions, _or_, NoKind, Part, one-of, maybe-of, any-of, rows}
-use Rattle.image.specs.Tree.{carries}
+use Rattle.image.specs.Text.{wordAt, less}
+use Rattle.image.specs.Tree.{carries, nameFits}
 
 -- the numbers of the families that a part asks for: the first and the last of them
 abbrev pub lowest : Family → ℕ
@@ -120,19 +123,110 @@ childrenFrom (suc fuel) s q at e =
     (both (ltb at (endOf s at)) (childrenFrom fuel s (placeAfter q (familyOf (kindOf s at))) (endOf s at) e))
     (both (eqb at e) (ends q))
 
--- the parts of a row from place q on, up to its end, as digits to the base 1,024; a part that nothing gets past stands alone. A row has five parts.
-unfoldable pub restFrom : ℕ → ℕ → ℕ
-restFrom zero q = 0
-restFrom (suc n) q =
-    pick (eqb (partAt q) rowEnd) 0 (pick (eqb (partAt q) never) never (partAt q + 1024 * restFrom n (q + 1)))
+-- what a row still has at place q, up to its end: no row has more than five parts
+abbrev pub restFrom : ℕ → ℕ → List ℕ
+restFrom zero q = []
+restFrom (suc n) q = pick (eqb (partAt q) rowEnd) [] (partAt q ∷ restFrom n (q + 1))
 
--- what is left of a row at place q; past the table as where nothing fits
-unfoldable pub restAt : ℕ → ℕ
-restAt q = pick (ltb q 230) (restFrom 5 q) never
+abbrev pub sameParts : List ℕ → List ℕ → Bool
+sameParts [] [] = true
+sameParts [] (b ∷ u) = false
+sameParts (a ∷ t) [] = false
+sameParts (a ∷ t) (b ∷ u) = both (eqb a b) (sameParts t u)
 
--- of kind k: its family, the form of the text that it carries, and its row
+-- the place in the row of kind k behind j parts
+abbrev pub inRow : ℕ → ℕ → ℕ
+inRow k j = rowOf k + j
+
+-- Places at which rows have the same rest have one state, and nothing fits in state 0. The first place of each state, 0 to 30:
+abbrev pub places : List ℕ
+places =
+    inRow 0 0
+    -- 1 to 15, a whole row with a part that may not be left out: that of Contract, Asset, FieldDecl, Event
+    ∷ inRow 1 0
+    ∷ inRow 2 0
+    ∷ inRow 4 0
+    ∷ inRow 5 0
+    -- of Invariant, Entry, Param, Type, MofN
+    ∷ inRow 8 0
+    ∷ inRow 9 0
+    ∷ inRow 10 0
+    ∷ inRow 11 0
+    ∷ inRow 13 0
+    -- of After, Let, Emit, Assign, Field, Call
+    ∷ inRow 21 0
+    ∷ inRow 25 0
+    ∷ inRow 26 0
+    ∷ inRow 27 0
+    ∷ inRow 42 0
+    ∷ inRow 43 0
+    -- 16 to 18, such a row behind its first part: that of FieldDecl, Param, MofN
+    ∷ inRow 4 1
+    ∷ inRow 10 1
+    ∷ inRow 13 1
+    -- From 19 on a row may end. Up to 22 a whole row: that of State, what has no children, Genesis, Writes
+    ∷ inRow 3 0
+    ∷ inRow 0 1
+    ∷ inRow 7 0
+    ∷ inRow 14 0
+    -- 23 to 26, a row behind its first part: that of Contract, Event, Entry, Type
+    ∷ inRow 1 1
+    ∷ inRow 5 1
+    ∷ inRow 9 1
+    ∷ inRow 11 1
+    -- 27 to 30: the default of FieldDecl, the arguments of Emit, the clauses and statements of Entry, the signer of Param
+    ∷ inRow 4 2
+    ∷ inRow 26 1
+    ∷ inRow 9 2
+    ∷ inRow 10 2
+    ∷ []
+
+-- the number, counted from s, of the first of the places at which a row has the rest r
+abbrev pub numberIn : List ℕ → List ℕ → ℕ → ℕ
+numberIn r [] s = 0
+numberIn r (p ∷ ps) s = pick (sameParts (restFrom 5 p) r) s (numberIn r ps (s + 1))
+
+abbrev pub statesFrom : ℕ → ℕ → List ℕ
+statesFrom zero q = []
+statesFrom (suc n) q = numberIn (restFrom 5 q) places 0 ∷ statesFrom n (q + 1)
+
+-- the state of each place
+unfoldable pub states : List ℕ
+states = statesFrom 230 0
+
+unfoldable pub stateOf : ℕ → ℕ
+stateOf q = getD states q 0
+
+-- the states after one more child at place p, of each family from f on
+abbrev pub nextsFrom : ℕ → ℕ → ℕ → List ℕ
+nextsFrom zero p f = []
+nextsFrom (suc n) p f = stateOf (afterFrom 5 p f) ∷ nextsFrom n p (f + 1)
+
+-- for each of the places, those of the families 0 to 15; 0 for a place in the row of a kind from k on
+abbrev pub nextsBelow : ℕ → List ℕ → List ℕ
+nextsBelow k [] = []
+nextsBelow k (p ∷ ps) = pick (ltb p (5 * k)) (nextsFrom 16 p 0) (replicate 16 0) ++ nextsBelow k ps
+
+-- for each state, the one after one more child of each family, where the rows of the kinds below k are laid down; and where all of them are
+unfoldable pub laidBelow : ℕ → List ℕ
+laidBelow k = nextsBelow k places
+
+unfoldable pub nextStates : List ℕ
+nextStates = laidBelow 46
+
+-- u is the table t with one transition more: a child of family f leads from state s to another
+pub record Leads (t u : List ℕ) (s f to : ℕ) : Type 0 where
+  pub leads : u ≡ set t (16 * s + f) to
+
+abbrev pub nextState : ℕ → ℕ → ℕ
+nextState s f = getD nextStates (16 * s + f) 0
+
+abbrev pub mayEnd : ℕ → Bool
+mayEnd s = leb 19 s
+
+-- of kind k: its family, the form of the text that it carries, and the state that its row starts in
 unfoldable pub kindFacts : ℕ → ℕ
-kindFacts k = familyOf k + 16 * carries k + 64 * restAt (rowOf k)
+kindFacts k = familyOf k + 16 * carries k + 64 * stateOf (rowOf k)
 
 unfoldable pub kindsFrom : ℕ → ℕ → List ℕ
 kindsFrom zero k = []
@@ -141,3 +235,42 @@ kindsFrom (suc n) k = kindFacts k ∷ kindsFrom n (k + 1)
 -- the same for each kind, 0 to 45
 unfoldable pub kindTable : List ℕ
 kindTable = kindsFrom 46 0
+
+-- the fields of node i, but for its end, are as the tree wants them
+unfoldable pub fieldsOk : List ℕ → List ℕ → List ℕ → ℕ → ℕ → Bool
+fieldsOk nodes names text m i =
+    both (eqb (getD nodes (16 * i + 1) 0) 0)
+    (both (eqb (half nodes (16 * i + 6)) 0)
+    (nameFits names text m (kindOf nodes i) (nameOf nodes i)))
+
+-- node 0 is the contract and ends at n, of which there is one at least, and its fields are in order
+pub record Rooted (nodes names text : List ℕ) (n m : ℕ) : Type 0 where
+  pub some : 1 ≤ n
+  pub root : kindOf nodes 0 ≡ 1
+  pub whole : endOf nodes 0 ≡ n
+  pub fields : fieldsOk nodes names text m 0 ≡ true
+
+-- what the walk over the nodes is lent: two tables with a cell for each node, and the marks of the names, on which node 0 has left its own
+pub record Lent (nodes ps es : List ℕ) (marks : List Bool) : Type 0 where
+  pub states-long : length ps ≡ maxNodes
+  pub ends-long : length es ≡ maxNodes
+  pub fresh : marks ≡ set (replicate (maxNames + 1) false) (nameOf nodes 0) true
+
+-- the mark of the name at place k
+unfoldable pub markAt : List Bool → ℕ → Bool
+markAt marks k = getD marks (k + 1) false
+
+-- every byte of the text is of a class
+unfoldable pub words : List ℕ → Bool
+words t = every (wordAt t) (length t)
+
+-- four bytes from k on as one number, the first one highest
+abbrev pub fourOf : List ℕ → ℕ → ℕ
+fourOf s k = 256 * (256 * (256 * getD s k 0 + getD s (k + 1) 0) + getD s (k + 2) 0) + getD s (k + 3) 0
+
+-- the first k bytes of two texts are the same, so what follows decides which is before the other; and where both have four more, these differ
+pub record Alike (t u : List ℕ) (k : ℕ) : Type 0 where
+  pub in-first : k ≤ length t
+  pub in-second : k ≤ length u
+  pub rests : less t u ≡ less (drop k t) (drop k u)
+  pub differ : k + 4 ≤ length t → k + 4 ≤ length u → fullWord t k ≡ fullWord u k → ⊥

@@ -1,6 +1,6 @@
 // The image of document 01: what its bytes hold, how they are read, and admission by number.
-// This file has the image's type with its maxima, the header, the fields of a node, the child
-// cursor, and the refusals in their order. table.rt has the table of children, names.rt the names
+// This file has the image's type with its maxima, the header, the fields of a node, and the
+// refusals in their order. table.rt has the table of children, names.rt the names
 // (refusal 5), nodes.rt the nodes (refusals 6 to 8).
 mod names;
 mod nodes;
@@ -10,7 +10,7 @@ ghost use mathlib.Core.Path.{_≡_};
 ghost use Prim.Native.Nat.{_+_, _*_, _<_, _≤_};
 ghost use lib.ListN.{length};
 ghost use Rattle.image.specs.Maxima.{maxNodes, maxNames};
-ghost use Rattle.image.specs.Node.{half, fullWord, kindOf, nameOf, endOf, fromOf, toOf, stepOf};
+ghost use Rattle.image.specs.Node.{half, fullWord, kindOf, nameOf, endOf, fromOf, toOf};
 ghost use Rattle.image.specs.Text.{less, offOf};
 ghost use Rattle.image.specs.Admit.{namesAt, textAt, layoutOk, headerRefusal, bodyRefusal, refusal, admissionOf};
 
@@ -203,39 +203,6 @@ pub fn below(t: &[u8], u: &[u8]) -> bool
     false
 }
 
-// A position among the children of a node: at the next child, or at the node's end.
-pub struct Cursor {
-    pub at: usize,
-    pub end: usize,
-}
-
-pub enum Step {
-    Child(usize, Cursor),
-    End,
-}
-
-impl Cursor {
-    // The child at the cursor, and the cursor moved past it.
-    pub fn step(self, nodes: &[u8]) -> Step
-        requires { ⌜ 16 * self .end ≤ length (now nodes) ⌝ }
-        ensures { λ r. ⌜ r ≡ stepOf (now (nodes .entry)) (self .at) (self .end) ⌝ }
-    {
-        let at = self.at;
-        let e = self.end;
-        if at < e {
-            Step::Child(
-                at,
-                Cursor {
-                    at: end(nodes, at),
-                    end: e,
-                },
-            )
-        } else {
-            Step::End
-        }
-    }
-}
-
 // Refusals 5 to 8 of the three parts of an image, or 0. Each is settled for the whole image before the next is looked at.
 fn judge(nodes: &[u8], names: &[u8], text: &[u8], n: usize, m: usize) -> usize
     requires { ⌜ (1 ≤ n) × (n ≤ maxNodes) × (16 * n ≤ length (now nodes)) × (2 * m + 2 ≤ length (now names)) × (m ≤ maxNames) ⌝ }
@@ -244,13 +211,12 @@ fn judge(nodes: &[u8], names: &[u8], text: &[u8], n: usize, m: usize) -> usize
     if !names::names_ok(names, text, m) {
         return 5;
     }
-    if !nodes::tree_ok(nodes, names, text, n, m) {
-        return 6;
+    let mut marks = [false; Image::NAMES + 1];
+    let r = nodes::tree(nodes, names, text, n, m, &mut marks);
+    if r != 0 {
+        return r;
     }
-    if !nodes::depth_ok(nodes, n) {
-        return 7;
-    }
-    if !nodes::used_ok(nodes, n, m) {
+    if !nodes::used_ok(&marks, m) {
         return 8;
     }
     0

@@ -2,11 +2,16 @@
 use super::Image;
 use super::below;
 use super::offset;
+use super::wide;
+use super::word_at;
 ghost use mathlib.Core.Path.{_≡_};
 ghost use Prim.Native.Nat.{_+_, _*_, _<_, _≤_};
+ghost use mathlib.Core.Bool.{true};
 ghost use lib.ListN.{length};
-ghost use Rattle.image.specs.Pick.{among};
-ghost use Rattle.image.specs.Text.{classOf, formOf, nameAt, namesOk};
+ghost use lib.Dec.{ltb, leb};
+ghost use Rattle.image.specs.Pick.{pick, among};
+ghost use Rattle.image.specs.Digits.{words, Alike, fourOf};
+ghost use Rattle.image.specs.Text.{classOf, less, nameAt, namesOk};
 
 // Whether b is one of the bytes from low to high.
 fn among(low: u8, high: u8, b: u8) -> bool
@@ -16,7 +21,7 @@ fn among(low: u8, high: u8, b: u8) -> bool
 }
 
 // The class of a byte: a letter or `_` 1, a digit 2, any other 0.
-fn class(b: u8) -> usize
+fn class(b: u8) -> u8
     ensures { λ r. ⌜ r ≡ classOf b ⌝ }
 {
     if among(b'a', b'z', b) {
@@ -34,24 +39,67 @@ fn class(b: u8) -> usize
     0
 }
 
-// The form of a text: an identifier 1, a number text 2, neither 0.
-fn form(t: &[u8]) -> usize
-    requires { ⌜ 1 ≤ length (now t) ⌝ }
-    ensures { λ r. ⌜ r ≡ formOf (now (t .entry)) ⌝ }
+// The lower of two classes.
+fn lower(c: u8, d: u8) -> u8
+    ensures { λ r. ⌜ r ≡ pick (ltb c d) c d ⌝ }
 {
-    let mut k = 0;
-    while k < t.len() {
-        if class(t[k]) < 1 {
-            return 0;
-        }
-        k += 1;
-    }
-    class(t[0])
+    if c < d { c } else { d }
 }
 
-// Whether the name from a up to b is in order after the one from p up to a.
+// The lowest class of a byte of the text (2 where it has none): 0 if one of them is of no class.
+fn lowest(t: &[u8]) -> u8
+    ensures { λ r. ⌜ leb 1 r ≡ words (now (t .entry)) ⌝ }
+{
+    let mut low = 2;
+    let mut k = 0;
+    while k < t.len() {
+        low = lower(class(t[k]), low);
+        k += 1;
+    }
+    low
+}
+
+// How many bytes, counted in fours, two texts have in common at their start.
+fn alike(t: &[u8], u: &[u8]) -> usize
+    ensures { λ r. ⌜ Alike (now (t .entry)) (now (u .entry)) r ⌝ }
+{
+    let mut k = 0;
+    while k + 4 <= u.len() {
+        if t.len() < k + 4 {
+            return k;
+        }
+        if word_at(t, k) != word_at(u, k) {
+            return k;
+        }
+        k += 4;
+    }
+    k
+}
+
+// Four bytes from k on as one number, the first one highest.
+fn four_at(s: &[u8], k: usize) -> usize
+    requires { ⌜ k + 3 < length (now s) ⌝ }
+    ensures { λ r. ⌜ r ≡ fourOf (now (s .entry)) k ⌝ }
+{
+    256 * (256 * (256 * wide(s[k]) + wide(s[k + 1])) + wide(s[k + 2])) + wide(s[k + 3])
+}
+
+// Whether t is before u, as `below` has it: where both go on, the first four bytes that are not alike decide.
+fn rises(t: &[u8], u: &[u8]) -> bool
+    ensures { λ r. ⌜ r ≡ less (now (t .entry)) (now (u .entry)) ⌝ }
+{
+    let k = alike(t, u);
+    if k + 4 <= t.len() {
+        if k + 4 <= u.len() {
+            return four_at(t, k) < four_at(u, k);
+        }
+    }
+    below(&t[k..], &u[k..])
+}
+
+// Whether the name from a up to b, in a text whose bytes are all of a class, is in order after the one from p up to a.
 fn name_ok(text: &[u8], p: usize, a: usize, b: usize) -> bool
-    requires { ⌜ (p ≤ a) × (a ≤ length (now text)) ⌝ }
+    requires { ⌜ (p ≤ a) × (a ≤ length (now text)) × (words (now text) ≡ true) ⌝ }
     ensures { λ r. ⌜ r ≡ nameAt (now (text .entry)) p a b ⌝ }
 {
     if b <= a {
@@ -63,10 +111,7 @@ fn name_ok(text: &[u8], p: usize, a: usize, b: usize) -> bool
     if Image::NAME < b - a {
         return false;
     }
-    if form(&text[a..b]) < 1 {
-        return false;
-    }
-    below(&text[p..a], &text[a..b])
+    rises(&text[p..a], &text[a..b])
 }
 
 // Whether the m names are in order.
@@ -81,6 +126,9 @@ pub fn names_ok(names: &[u8], text: &[u8], m: usize) -> bool
         return false;
     }
     if Image::TEXT < text.len() {
+        return false;
+    }
+    if lowest(text) < 1 {
         return false;
     }
     let mut p = 0;

@@ -1,7 +1,8 @@
-// The kinds and their children: document 01's table, and one step along a row of it.
+// The kinds and their children: document 01's table, as the states that a row can be in and the step from one to the next.
+use super::wide;
 ghost use mathlib.Core.Path.{_≡_};
-ghost use Prim.Native.Nat.{ℕ};
-ghost use Rattle.image.specs.Digits.{takes, placeAfter, ends, restAt, kindTable, kindFacts};
+ghost use Prim.Native.Nat.{_<_};
+ghost use Rattle.image.specs.Digits.{Leads, laidBelow, nextStates, nextState, kindTable, kindFacts};
 
 // The families of kinds that the rows speak of. 23:
 const NAME: usize = 1;
@@ -30,7 +31,7 @@ const EXPRESSION: usize = 12;
 // 1
 const CONTRACT: usize = 13;
 
-// One number for each kind: its family, plus the form of the text that it carries, plus its row.
+// One number for each kind: its family, plus the form of the text that it carries, plus the state that its row starts in.
 pub const TEXT: usize = 16;
 
 pub const ROW: usize = 64;
@@ -39,87 +40,104 @@ const IDENTIFIER: usize = TEXT * 1;
 
 const NUMBER: usize = TEXT * 2;
 
-// A part of a row: how often it stands, and the first and the last family that it takes, or the one family.
-const ONE: usize = 0;
+// The states of a row, by what may still come. In state 0 nothing fits, and in CHILDLESS nothing may come.
+const NAME_ITEMS: usize = 1;
 
-const OPTIONAL: usize = 1;
+const ONE_NAME: usize = 2;
 
-const MANY: usize = 2;
+const NAME_TYPE_DEFAULT: usize = 3;
 
-const FIRST: usize = 4;
+const NAME_EVENT_PARAMS: usize = 4;
 
-const LAST: usize = 64;
+const ONE_EXPRESSION: usize = 5;
 
-const OF: usize = FIRST + LAST;
+const NAME_PARAMS_CLAUSES_STATEMENTS: usize = 6;
 
-// A row: its parts as digits to the base THEN, the first one lowest. A kind with no children has the row 0.
-const THEN: usize = 1024;
-// A part that takes nothing: no row gets past it.
-const NEVER: usize = ONE + FIRST * 15;
+const NAME_TYPE_SIGNER: usize = 7;
 
-const NO_KIND: usize = ROW * NEVER;
+const NAME_TYPE_ARGUMENTS: usize = 8;
 
-const ONE_NAME: usize = ONE + OF * NAME;
+const TWO_INT_LITS: usize = 9;
 
-const OPTIONAL_NAME: usize = OPTIONAL + OF * NAME;
+const PERIOD_EXPRESSION: usize = 10;
 
-const NAMES: usize = MANY + OF * NAME;
+const NAME_EXPRESSION: usize = 11;
 
-const ITEMS: usize = MANY + OF * ITEM;
+const NAME_EXPRESSIONS: usize = 12;
 
-const FIELD_DECLS: usize = MANY + OF * FIELD_DECL;
+const TWO_EXPRESSIONS: usize = 13;
 
-const EVENT_PARAMS: usize = MANY + OF * EVENT_PARAM;
+const EXPRESSION_NAME: usize = 14;
 
-const STATEMENTS: usize = MANY + OF * STATEMENT;
+const EXPRESSION_ARGUMENTS: usize = 15;
 
-const CLAUSES: usize = MANY + OF * CLAUSE;
+const TYPE_DEFAULT: usize = 16;
 
-const PARAMS: usize = MANY + OF * PARAM;
+const TYPE_SIGNER: usize = 17;
 
-const ONE_TYPE: usize = ONE + OF * TYPE;
-// Any of 11, 12, 13.
-const TYPE_ARGUMENTS: usize = MANY + FIRST * TYPE + LAST * M_OF_N;
+const ONE_INT_LIT: usize = 18;
 
-const ONE_INT_LIT: usize = ONE + OF * INT_LIT;
-// 22 or an expression.
-const ONE_PERIOD: usize = ONE + FIRST * DURATION + LAST * EXPRESSION;
+// From this state on the row may end.
+pub const MAY_END: usize = 19;
 
-const ONE_EXPRESSION: usize = ONE + OF * EXPRESSION;
+const FIELD_DECLS: usize = 19;
 
-const OPTIONAL_EXPRESSION: usize = OPTIONAL + OF * EXPRESSION;
+const CHILDLESS: usize = 20;
 
-const EXPRESSIONS: usize = MANY + OF * EXPRESSION;
+const STATEMENTS: usize = 21;
+
+const NAMES: usize = 22;
+
+const ITEMS: usize = 23;
+
+const EVENT_PARAMS: usize = 24;
+
+const PARAMS_CLAUSES_STATEMENTS: usize = 25;
+
+const TYPE_ARGUMENTS: usize = 26;
+
+const MAYBE_EXPRESSION: usize = 27;
+
+const EXPRESSIONS: usize = 28;
+
+const CLAUSES_STATEMENTS: usize = 29;
+
+const SIGNER: usize = 30;
+
+// The state of the contract, before its first child.
+pub const START: usize = NAME_ITEMS;
+
+const NO_KIND: usize = 0;
 
 // Document 01's table of children, with the family and the text of each kind. It is copied into a local once for an image, and lent.
 pub const KINDS: [usize; 46] = [
     NO_KIND,
     // 1 Contract
-    CONTRACT + ROW * (ONE_NAME + THEN * ITEMS),
+    CONTRACT + ROW * NAME_ITEMS,
     // 2 Asset
     ITEM + ROW * ONE_NAME,
     // 3 State
     ITEM + ROW * FIELD_DECLS,
     // 4 FieldDecl
-    FIELD_DECL + ROW * (ONE_NAME + THEN * (ONE_TYPE + THEN * OPTIONAL_EXPRESSION)),
+    FIELD_DECL + ROW * NAME_TYPE_DEFAULT,
     // 5 Event
-    ITEM + ROW * (ONE_NAME + THEN * EVENT_PARAMS),
+    ITEM + ROW * NAME_EVENT_PARAMS,
     // 6 event parameter
-    EVENT_PARAM,
+    EVENT_PARAM + ROW * CHILDLESS,
     // 7 Genesis
     ITEM + ROW * STATEMENTS,
     // 8 Invariant
     ITEM + ROW * ONE_EXPRESSION,
     // 9 Entry
-    ITEM + ROW * (ONE_NAME + THEN * (PARAMS + THEN * (CLAUSES + THEN * STATEMENTS))),
+    ITEM + ROW * NAME_PARAMS_CLAUSES_STATEMENTS,
     // 10 Param
-    PARAM + ROW * (ONE_NAME + THEN * (ONE_TYPE + THEN * OPTIONAL_NAME)),
+    PARAM + ROW * NAME_TYPE_SIGNER,
     // 11 Type
-    TYPE + ROW * (ONE_NAME + THEN * TYPE_ARGUMENTS),
+    TYPE + ROW * NAME_TYPE_ARGUMENTS,
     // 12 IntLit of a type
-    INT_LIT + NUMBER,
+    INT_LIT + NUMBER + ROW * CHILDLESS,
     // 13 MofN
-    M_OF_N + ROW * (ONE_INT_LIT + THEN * ONE_INT_LIT),
+    M_OF_N + ROW * TWO_INT_LITS,
     // 14 Writes, 15 Reads
     CLAUSE + ROW * NAMES,
     CLAUSE + ROW * NAMES,
@@ -131,18 +149,18 @@ pub const KINDS: [usize; 46] = [
     CLAUSE + ROW * ONE_EXPRESSION,
     CLAUSE + ROW * ONE_EXPRESSION,
     // 21 After
-    CLAUSE + ROW * (ONE_PERIOD + THEN * OPTIONAL_EXPRESSION),
+    CLAUSE + ROW * PERIOD_EXPRESSION,
     // 22 Duration, 23 Name
-    DURATION,
-    NAME + IDENTIFIER,
+    DURATION + ROW * CHILDLESS,
+    NAME + IDENTIFIER + ROW * CHILDLESS,
     // 24 Guard
     STATEMENT + ROW * ONE_EXPRESSION,
     // 25 Let
-    STATEMENT + ROW * (ONE_NAME + THEN * ONE_EXPRESSION),
+    STATEMENT + ROW * NAME_EXPRESSION,
     // 26 Emit
-    STATEMENT + ROW * (ONE_NAME + THEN * EXPRESSIONS),
+    STATEMENT + ROW * NAME_EXPRESSIONS,
     // 27 Assign
-    STATEMENT + ROW * (ONE_EXPRESSION + THEN * ONE_EXPRESSION),
+    STATEMENT + ROW * TWO_EXPRESSIONS,
     // 28 Stmt::Expr
     STATEMENT + ROW * ONE_EXPRESSION,
     // 29 to 31 are no kinds
@@ -150,27 +168,120 @@ pub const KINDS: [usize; 46] = [
     NO_KIND,
     NO_KIND,
     // 32 Int, 33 Date, 34 Str, 35 Ident
-    EXPRESSION,
-    EXPRESSION,
-    EXPRESSION,
-    EXPRESSION + IDENTIFIER,
+    EXPRESSION + ROW * CHILDLESS,
+    EXPRESSION + ROW * CHILDLESS,
+    EXPRESSION + ROW * CHILDLESS,
+    EXPRESSION + IDENTIFIER + ROW * CHILDLESS,
     // 36 Caller, 37 Native, 38 InAsset, 39 Now
-    EXPRESSION,
-    EXPRESSION,
-    EXPRESSION,
-    EXPRESSION,
+    EXPRESSION + ROW * CHILDLESS,
+    EXPRESSION + ROW * CHILDLESS,
+    EXPRESSION + ROW * CHILDLESS,
+    EXPRESSION + ROW * CHILDLESS,
     // 40 Unary
     EXPRESSION + ROW * ONE_EXPRESSION,
     // 41 Binary
-    EXPRESSION + ROW * (ONE_EXPRESSION + THEN * ONE_EXPRESSION),
+    EXPRESSION + ROW * TWO_EXPRESSIONS,
     // 42 Field
-    EXPRESSION + ROW * (ONE_EXPRESSION + THEN * ONE_NAME),
+    EXPRESSION + ROW * EXPRESSION_NAME,
     // 43 Call
-    EXPRESSION + ROW * (ONE_EXPRESSION + THEN * EXPRESSIONS),
+    EXPRESSION + ROW * EXPRESSION_ARGUMENTS,
     // 44 Checked, 45 Wrapping
     EXPRESSION + ROW * ONE_EXPRESSION,
     EXPRESSION + ROW * ONE_EXPRESSION,
 ];
+
+// A child of family f leads from state s to another.
+fn leads(t: &mut [u8; 496], s: usize, f: usize, to: usize)
+    requires { ⌜ (s < 31) × (f < 16) × (to < 31) ⌝ }
+    ensures { λ _. ⌜ Leads (now (t .entry)) (now (t .exit)) s f to ⌝ }
+{
+    t[16 * s + f] = to as u8;
+}
+
+// Declarations: the rows of kinds 1 to 8.
+fn declarations(t: &mut [u8; 496])
+    requires { ⌜ now t ≡ laidBelow 1 ⌝ }
+    ensures { λ _. ⌜ now (t .exit) ≡ laidBelow 9 ⌝ }
+{
+    leads(t, NAME_ITEMS, NAME, ITEMS);
+    leads(t, ITEMS, ITEM, ITEMS);
+    leads(t, ONE_NAME, NAME, CHILDLESS);
+    leads(t, FIELD_DECLS, FIELD_DECL, FIELD_DECLS);
+    leads(t, NAME_TYPE_DEFAULT, NAME, TYPE_DEFAULT);
+    leads(t, TYPE_DEFAULT, TYPE, MAYBE_EXPRESSION);
+    leads(t, MAYBE_EXPRESSION, EXPRESSION, CHILDLESS);
+    leads(t, NAME_EVENT_PARAMS, NAME, EVENT_PARAMS);
+    leads(t, EVENT_PARAMS, EVENT_PARAM, EVENT_PARAMS);
+    leads(t, STATEMENTS, STATEMENT, STATEMENTS);
+    leads(t, ONE_EXPRESSION, EXPRESSION, CHILDLESS);
+}
+
+// Entries and their parameters, 9 and 10.
+fn entries(t: &mut [u8; 496])
+    requires { ⌜ now t ≡ laidBelow 9 ⌝ }
+    ensures { λ _. ⌜ now (t .exit) ≡ laidBelow 11 ⌝ }
+{
+    leads(
+        t,
+        NAME_PARAMS_CLAUSES_STATEMENTS,
+        NAME,
+        PARAMS_CLAUSES_STATEMENTS,
+    );
+    leads(
+        t,
+        PARAMS_CLAUSES_STATEMENTS,
+        PARAM,
+        PARAMS_CLAUSES_STATEMENTS,
+    );
+    leads(t, PARAMS_CLAUSES_STATEMENTS, CLAUSE, CLAUSES_STATEMENTS);
+    leads(t, PARAMS_CLAUSES_STATEMENTS, STATEMENT, STATEMENTS);
+    leads(t, CLAUSES_STATEMENTS, CLAUSE, CLAUSES_STATEMENTS);
+    leads(t, CLAUSES_STATEMENTS, STATEMENT, STATEMENTS);
+    leads(t, NAME_TYPE_SIGNER, NAME, TYPE_SIGNER);
+    leads(t, TYPE_SIGNER, TYPE, SIGNER);
+    leads(t, SIGNER, NAME, CHILDLESS);
+}
+
+// Types and their arguments, 11 to 13.
+fn types(t: &mut [u8; 496])
+    requires { ⌜ now t ≡ laidBelow 11 ⌝ }
+    ensures { λ _. ⌜ now (t .exit) ≡ laidBelow 14 ⌝ }
+{
+    leads(t, NAME_TYPE_ARGUMENTS, NAME, TYPE_ARGUMENTS);
+    leads(t, TYPE_ARGUMENTS, TYPE, TYPE_ARGUMENTS);
+    leads(t, TYPE_ARGUMENTS, INT_LIT, TYPE_ARGUMENTS);
+    leads(t, TYPE_ARGUMENTS, M_OF_N, TYPE_ARGUMENTS);
+    leads(t, TWO_INT_LITS, INT_LIT, ONE_INT_LIT);
+    leads(t, ONE_INT_LIT, INT_LIT, CHILDLESS);
+}
+
+// Clauses, statements and expressions, 14 to 45.
+fn bodies(t: &mut [u8; 496])
+    requires { ⌜ now t ≡ laidBelow 14 ⌝ }
+    ensures { λ _. ⌜ now (t .exit) ≡ laidBelow 46 ⌝ }
+{
+    leads(t, NAMES, NAME, NAMES);
+    leads(t, PERIOD_EXPRESSION, DURATION, MAYBE_EXPRESSION);
+    leads(t, PERIOD_EXPRESSION, EXPRESSION, MAYBE_EXPRESSION);
+    leads(t, NAME_EXPRESSION, NAME, ONE_EXPRESSION);
+    leads(t, NAME_EXPRESSIONS, NAME, EXPRESSIONS);
+    leads(t, EXPRESSIONS, EXPRESSION, EXPRESSIONS);
+    leads(t, TWO_EXPRESSIONS, EXPRESSION, ONE_EXPRESSION);
+    leads(t, EXPRESSION_NAME, EXPRESSION, ONE_NAME);
+    leads(t, EXPRESSION_ARGUMENTS, EXPRESSION, EXPRESSIONS);
+}
+
+// For each state, the one after a child of each family, 0 to 15; a family that does not fit leads to 0. It is made once for an image, and lent.
+pub fn transitions() -> [u8; 496]
+    ensures { λ r. ⌜ r ≡ nextStates ⌝ }
+{
+    let mut t = [0u8; 496];
+    declarations(&mut t);
+    entries(&mut t);
+    types(&mut t);
+    bodies(&mut t);
+    t
+}
 
 // What the table holds of kind k.
 pub fn facts(kinds: &[usize; 46], k: usize) -> usize
@@ -180,48 +291,10 @@ pub fn facts(kinds: &[usize; 46], k: usize) -> usize
     if k < 46 { kinds[k] } else { NO_KIND }
 }
 
-// Whether a part of a row takes a kind of family f.
-fn taken(part: usize, f: usize) -> bool
-    ensures { λ r. ⌜ r ≡ takes part f ⌝ }
+// The state of a row after one more child, of family f.
+pub fn next(nexts: &[u8; 496], s: usize, f: usize) -> usize
+    requires { ⌜ (s < 31) × (f < 16) × (now nexts ≡ nextStates) ⌝ }
+    ensures { λ r. ⌜ (r ≡ nextState s f) × (r < 31) ⌝ }
 {
-    if part / FIRST % 16 <= f {
-        f <= part / LAST
-    } else {
-        false
-    }
-}
-
-// What is left of a row after one more child, of family f.
-pub fn next(row: usize, f: usize) -> usize
-    ensures { λ r. ⌜ ((q : ℕ) → row ≡ restAt q → r ≡ restAt (placeAfter q f)) ⌝ }
-{
-    let mut rest = row;
-    while 0 < rest {
-        let part = rest % THEN;
-        if taken(part, f) {
-            if part % 4 == MANY {
-                return rest;
-            }
-            return rest / THEN;
-        }
-        if part % 4 == ONE {
-            return NEVER;
-        }
-        rest = rest / THEN;
-    }
-    NEVER
-}
-
-// Whether a row may end with this left of it.
-pub fn may_end(row: usize) -> bool
-    ensures { λ r. ⌜ ((q : ℕ) → row ≡ restAt q → r ≡ ends q) ⌝ }
-{
-    let mut rest = row;
-    while 0 < rest {
-        if rest % 4 == ONE {
-            return false;
-        }
-        rest = rest / THEN;
-    }
-    true
+    wide(nexts[16 * s + f])
 }

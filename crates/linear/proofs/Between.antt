@@ -2,7 +2,7 @@
 use Prim.Native.Nat.{ℕ, _<_}
 use mathlib.Core.Path.{_≡_, ap, _∙_, sym}
 use mathlib.Core.Bool.{Bool}
-use mathlib.Core.List.{List, [], _++_, List·Memᴰ·head}
+use mathlib.Core.List.{List, _++_, List·Memᴰ·head}
 use native.Mathlib.Omega.{arith}
 use Rattle.rules.specs.Sweep.{run}
 use Rattle.rules.specs.Tree.{tree, «let»}
@@ -12,33 +12,29 @@ use Rattle.records.proofs.Sweep.{keep-one, has-one}
 use Rattle.nodes.specs.Shown.{In, treeOf}
 use Rattle.nodes.proofs.Parts.{inside, formed}
 use Rattle.linear_tracked.specs.declared.Words.{Words}
-use Rattle.linear_tracked.specs.Rows.{Rows, Rowed, Placed, rowsOf}
+use Rattle.linear_tracked.specs.Rows.{Rows, Unrowed, Placed, rowsOf}
 use Rattle.linear_tracked.proofs.Filled.{rows-start}
 use Rattle.linear_rows.specs.Tallies.{Tallied, judgedAt}
 use Rattle.linear.specs.Seen.{RowsNoted, LinearTables, itemLinear, rowMarks, rowUses}
 use Rattle.linear.proofs.Judged.{rows-judged}
 
 module _ {nodes : List ℕ} {words : Words} {reader burned : List Bool} {places first last tallies : List ℕ} (T : LinearTables nodes words reader burned places first last tallies) where
-  abbrev pub start-rows : Rows (T .known .view .image) [] 0 places first last
-  start-rows = rows-start (T .clean .size) (T .clean .first-none) (T .clean .last-none)
-
   pub under-root : {e : ℕ} → In nodes 0 e → e < treeOf (T .known .view) .end 0
   under-root i = let W = T .known .view in let a = inside W i in let b = W .shown .high in let d = formed W .root-end in omega arith
+
+  -- an entry before its rows are tracked; the places of its rows; the rows noted by name
+  abbrev pub unrowed-of : {e : ℕ} → treeOf (T .known .view) .kind e ≡ 9 → In nodes 0 e → 0 < e → Unrowed nodes words e places first last
+  unrowed-of k i z = record {
+    known = T .known;
+    is-entry = record { after = z; inside = under-root i; kind = List·Memᴰ·head k };
+    here = i;
+    rows = rows-start (T .clean .size) (T .clean .first-none) (T .clean .last-none);
+  }
 
   abbrev pub placed-of : {e n : ℕ} {places′ first′ last′ : List ℕ} → In nodes 0 e → Rows (T .known .view .image) (rowsOf e (treeOf (T .known .view))) n places′ first′ last′ → Placed nodes n places′
   placed-of {e} {first′ = first′} {last′ = last′} i R = record { view = T .known .view; entry = e; here = i; first = first′; last = last′; rows = R }
 
   module _ {e n : ℕ} {places′ first′ last′ : List ℕ} (k : treeOf (T .known .view) .kind e ≡ 9) (R : Rows (T .known .view .image) (rowsOf e (treeOf (T .known .view))) n places′ first′ last′) where
-    abbrev pub rowed-of : In nodes 0 e → 0 < e → Rowed nodes e places′ first′
-    rowed-of i z = record {
-      view = T .known .view;
-      is-entry = record { after = z; inside = under-root i; kind = List·Memᴰ·head k };
-      here = i;
-      n = n;
-      last = last′;
-      rows = R;
-    }
-
     abbrev pub filled-of : RowsNoted nodes words e reader burned first′ last′ tallies
     filled-of = record {
       known = T .known;

@@ -1,21 +1,22 @@
 -- Clean tables: fresh ones, which the pass is lent; others in their stead.
 use Prim.Native.Nat.{ℕ, _+_, _*_, _≤_}
+use mathlib.Core.Path.{_≡_}
 use mathlib.Core.Bool.{Bool, false}
 use mathlib.Core.List.{List}
 use native.Mathlib.Omega.{arith}
 use lib.ListN.{replicate, length-replicate, getD-replicate}
-use Rattle.image.specs.Admit.{nodeCount}
+use Rattle.image.specs.Admit.{refusal}
 use Rattle.rules.specs.Words.{Q-Asset, split, mint}
-use Rattle.nodes.specs.Shown.{Shown}
 use Rattle.nodes.specs.Marks.{Marks}
 use Rattle.nodes.proofs.Names.{marks-none}
-use Rattle.nodes.proofs.Heads.{view-of, root-of}
+use Rattle.names.specs.declared.Words.{Words as AllWords}
 use Rattle.names.specs.Found.{Numbered}
+use Rattle.names.specs.Spelled.{WordsOf}
 use Rattle.places.proofs.Noting.{places-none}
 use Rattle.linear_occurrences.specs.Counted.{Clear, isReader}
 use Rattle.linear_tracked.specs.declared.Words.{Words}
 use Rattle.linear_rows.specs.Tallies.{Blank}
-use Rattle.linear.specs.Seen.{LinearTables, Clean}
+use Rattle.linear.specs.Seen.{LookedWords, LinearTables, Clean}
 
 -- no flag is set from a later node on
 pub clear-later : {p q : ℕ} {r : List Bool} → p ≤ q → Clear p r → Clear q r
@@ -32,20 +33,26 @@ blank-all = record {
   seconds = λ r l. getD-replicate 1533 (3 * r + 2) 0 0 (omega arith);
 }
 
-abbrev pub tables-of : {s nodes : List ℕ} {words : Words} {reader : List Bool} (S : Shown s nodes 0 (nodeCount s)) → Numbered s Q-Asset (words .asset) × Numbered s split (words .split) × Numbered s mint (words .mint)
-    → (Marks s (λ w. false) (replicate 1024 false) → Marks s isReader reader) → LinearTables nodes words reader (replicate 1024 false) (replicate 511 0) (replicate 1024 0) (replicate 1024 0) (replicate 1533 0)
-tables-of {s} S N f = record {
-  known = record { view = view-of S; asset-number = N .0; split-number = N .1; mint-number = N .2 };
-  root = root-of S;
-  reader-marks = f (marks-none s (S .admitted));
-  clean = record {
-    size = length-replicate {A = ℕ} 511 0;
-    burned-none = marks-none s (S .admitted);
-    first-none = places-none s (S .admitted);
-    last-none = places-none s (S .admitted);
-    blank = blank-all;
-  };
-}
+abbrev pub tables-of : {nodes : List ℕ} {all : AllWords} {words : Words} {reader : List Bool} (L : LookedWords nodes all)
+    → ((s : List ℕ) → WordsOf s all → Numbered s Q-Asset (words .asset) × Numbered s split (words .split) × Numbered s mint (words .mint))
+    → ((s : List ℕ) → refusal s ≡ 0 → WordsOf s all → Marks s (λ w. false) (replicate 1024 false) → Marks s isReader reader)
+    → LinearTables nodes words reader (replicate 1024 false) (replicate 511 0) (replicate 1024 0) (replicate 1024 0) (replicate 1533 0)
+tables-of L n f =
+    let s = L .view .image in
+    let a = L .view .shown .admitted in
+    let N = n s (L .words-are) in
+    record {
+      known = record { view = L .view; asset-number = N .0; split-number = N .1; mint-number = N .2 };
+      root = L .root;
+      reader-marks = f s a (L .words-are) (marks-none s a);
+      clean = record {
+        size = length-replicate {A = ℕ} 511 0;
+        burned-none = marks-none s a;
+        first-none = places-none s a;
+        last-none = places-none s a;
+        blank = blank-all;
+      };
+    }
 
 -- the tables with others that are clean
 abbrev pub cleaned : {nodes : List ℕ} {words : Words} {reader burned burned′ : List Bool} {places first last tallies places′ first′ last′ tallies′ : List ℕ} (T : LinearTables nodes words reader burned places first last tallies)

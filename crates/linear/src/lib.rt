@@ -4,17 +4,17 @@ use linear_occurrences::Flags;
 use linear_rows::Tallies;
 use linear_tracked::Cells;
 use linear_tracked::Words;
+use nodes::Cursor;
 use nodes::ENTRY;
 use nodes::Marks;
 use places::Places;
 ghost use Prim.Native.Nat.{_*_, _<_, _^_};
-ghost use Rattle.rules.specs.Tree.{tree};
 ghost use Rattle.rules.specs.Linear.{linear};
 ghost use Rattle.records.specs.Words.{old, new};
 ghost use Rattle.records.specs.Records.{Adds};
-ghost use Rattle.nodes.specs.Shown.{In, Admitted, treeOf};
+ghost use Rattle.nodes.specs.Shown.{In, treeOf};
 ghost use Rattle.linear_occurrences.specs.Counted.{Clear};
-ghost use Rattle.linear.specs.Seen.{RowsNoted, Tallies-entry, LinearTables, CleansRows, seenLinear, itemLinear};
+ghost use Rattle.linear.specs.Seen.{LookedWords, RowsNoted, Tallies-entry, LinearTables, CleansRows, seenLinear, itemLinear};
 
 // The marks and the counted occurrences of an entry on its rows.
 pub fn tally(
@@ -60,8 +60,9 @@ fn entry(
     if nodes::kind(nodes, 0, item) != ENTRY {
         return count;
     }
-    let n = linear_tracked::track(words, nodes, item, places, first, last);
-    let aliased = linear_tracked::aliases(nodes, item, places, first, out, count);
+    let tracked = linear_tracked::track(words, nodes, item, places, first, last, out, count);
+    let n = tracked.rows;
+    let aliased = tracked.count;
     tally(
         words,
         nodes,
@@ -95,14 +96,18 @@ fn entries(
     requires { ⌜ LinearTables (now nodes) words (now reader) (now burned) (now places) (now first) (now last) (now tallies) × Clear 1 (now flags) ⌝ }
     ensures { λ r. ⌜ Adds (seenLinear linear nodes words reader burned places first last tallies) (3070 * 2048) out 0 r ⌝ }
 {
-    let end = nodes::end(nodes, 0, 0);
+    let to = nodes::end(nodes, 0, 0);
     let mut total = 0;
-    let mut p = 1;
-    while p < end {
+    let mut children = Cursor {
+        base: 0,
+        at: 1,
+        end: to,
+    };
+    while children.at < children.end {
         total = entry(
             words,
             nodes,
-            p,
+            children.at,
             reader,
             burned,
             flags,
@@ -113,20 +118,19 @@ fn entries(
             out,
             total,
         );
-        p = nodes::end(nodes, 0, p);
+        children = children.step(nodes).rest;
     }
     total
 }
 
 // The records of the linear pass of an admitted image, from the buffer's start.
-pub fn list(image: &[u8], head: Image, out: &mut [u16]) -> usize
-    requires { ⌜ Admitted (now image) head ⌝ }
-    ensures { λ r. ⌜ Adds (λ (_ : Unit {0}). linear (tree (old image))) (3070 * 2048) out 0 r ⌝ }
+pub fn list(nodes: &[u8], words: names::Words, out: &mut [u16]) -> usize
+    requires { ⌜ LookedWords (now nodes) words ⌝ }
+    ensures { λ r. ⌜ Adds (λ (T : LookedWords (old nodes) words). linear (treeOf (T .view))) (3070 * 2048) out 0 r ⌝ }
 {
-    let nodes = nodes::area(image, head);
-    let words = linear_tracked::find_words(image, head);
+    let asset_words = linear_tracked::asset_words(words);
     let mut reader = [false; Image::NAMES];
-    linear_occurrences::mark_readers(image, head, &mut reader);
+    linear_occurrences::mark_readers(words, &mut reader);
     let mut burned = [false; Image::NAMES];
     let mut flags = [false; Image::NODES];
     let mut places = [0u16; 511];
@@ -134,7 +138,7 @@ pub fn list(image: &[u8], head: Image, out: &mut [u16]) -> usize
     let mut last = [0u16; Image::NAMES];
     let mut tallies = [0u16; 1533];
     entries(
-        words,
+        asset_words,
         nodes,
         &reader,
         &mut burned,

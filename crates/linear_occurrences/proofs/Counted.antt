@@ -71,7 +71,7 @@ module _ {nodes : List ℕ} {base : ℕ} {reader : List Bool} (T : Counting node
       go false e = ltb-false s base e
       go true e = absurd (true≢false (sym (tells-has (t .kind s) statement .back (B .kind)) ∙ T .first .none s (B .after) (ltb-true s base e)))
 
-  -- no node takesNode one that does not stand after it, or that is not in the part
+  -- no node takes one that does not stand after it, or that is not in the part
   pub untaken : (i p : ℕ) → base ≤ p → p < T .view .upto → ((p < i) × (i < T .view .upto) → ⊥) → takesNode t i p ≡ false
   untaken i p l h n = not-so (takesNode t i p) (λ e. n (takes-after (T .view) (there (T .view) l h) i (tells-takes t i p .so e)))
 

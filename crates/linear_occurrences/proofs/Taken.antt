@@ -1,4 +1,4 @@
--- What one node takesNode, and that it stands after the node that takesNode it ("an Assign value", "each argument" of document 01).
+-- What one node takes, and that it stands after the node that takes it ("an Assign value", "each argument" of document 01).
 use Prim.Native.Nat.{ℕ, suc, _+_, _-_, _<_, _≤_}
 use mathlib.Core.Path.{_≡_, refl, ap, _∙_, sym}
 use mathlib.Core.Bool.{Bool, true, false, not, true≢false}
@@ -127,7 +127,7 @@ one-kind k j e = eqb-true k j (go (eqb k j) e)
     go true e = refl
     go false e = e
 
--- what a node takesNode stands after it, and in the part
+-- what a node takes stands after it, and in the part
 pub takes-after : {part : List ℕ} {b p : ℕ} (W : View part b) → In part b p → (i : ℕ) → Takes (treeOf W) i p → (p < i) × (i < W .upto)
 takes-after {p = p} W h i =
     ⊎-elim

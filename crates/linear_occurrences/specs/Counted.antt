@@ -1,4 +1,4 @@
--- Counted occurrences node by node ("Linear" of document 01): what an Assign or a Call takesNode, and a flag for each of 2,048 nodes, by its number.
+-- Counted occurrences node by node ("Linear" of document 01): what an Assign or a Call takes, and a flag for each of 2,048 nodes, by its number.
 use Prim.Native.Nat.{ℕ, _+_, _-_, _<_, _≤_}
 use mathlib.Core.Path.{_≡_}
 use mathlib.Core.Bool.{Bool, false, not}
@@ -26,7 +26,7 @@ peelsTo t i a = atBottom t peels a (λ j. eqb j i)
 abbrev pub isTaken : Tree → ℕ → ℕ → Bool
 isTaken t i c = someArgument t c (peelsTo t i)
 
--- node p, an Assign or a Call that does not only read, takesNode node i
+-- node p, an Assign or a Call that does not only read, takes node i
 abbrev pub takesNode : Tree → ℕ → ℕ → Bool
 takesNode t i p =
     either (also (has (t .kind p) assign) (isValue t i) p)

@@ -2,6 +2,7 @@
 use linear_occurrences::Flags;
 use linear_tracked::Cells;
 use nodes::BURNS;
+use nodes::Cursor;
 use nodes::Marks;
 use nodes::PARAM;
 use places::Places;
@@ -105,10 +106,14 @@ fn burn_marks(
     requires { ⌜ Burning (now nodes) entry asset (now burned) (now rows) × Head (now nodes) 0 entry to × Blank (now tallies) ⌝ }
     ensures { λ _. ⌜ ((T : Burning (old nodes) entry asset (old burned) (old rows)) → Tallied (burnsOn (treeOf (T .on-rows .view)) entry (T .on-rows .row-of)) (λ r. []) (new tallies)) ⌝ }
 {
-    let mut p = entry + 1;
-    while p < to {
-        burn_mark(asset, nodes, entry, p, burned, rows, tallies);
-        p = nodes::end(nodes, 0, p);
+    let mut children = Cursor {
+        base: 0,
+        at: entry + 1,
+        end: to,
+    };
+    while children.at < children.end {
+        burn_mark(asset, nodes, entry, children.at, burned, rows, tallies);
+        children = children.step(nodes).rest;
     }
 }
 

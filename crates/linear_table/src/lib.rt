@@ -5,6 +5,7 @@ use linear_occurrences::Flags;
 use linear_rows::Tallies;
 use linear_tracked::Cells;
 use linear_tracked::Words;
+use nodes::Cursor;
 use nodes::ENTRY;
 use nodes::Marks;
 use places::Places;
@@ -16,7 +17,7 @@ ghost use Rattle.rules.specs.Sweep.{run};
 ghost use Rattle.records.specs.Words.{old, new};
 ghost use Rattle.nodes.specs.Shown.{In, Admitted, treeOf};
 ghost use Rattle.linear_occurrences.specs.Counted.{Clear};
-ghost use Rattle.linear_tracked.specs.Rows.{Placed, PlaceOf, Rowed};
+ghost use Rattle.linear_tracked.specs.Rows.{Unrowed, TakesRows, Placed, PlaceOf};
 ghost use Rattle.linear_rows.specs.Tallies.{Blanks};
 ghost use Rattle.linear.specs.Seen.{LinearTables};
 ghost use Rattle.linear_table.specs.declared.Row.{Row};
@@ -91,23 +92,33 @@ fn stand(
     }
 }
 
-// The place of the first 60 of an entry, 0 where it has none.
-fn first_alias(nodes: &[u8], entry: usize, places: &Cells, first: &Places) -> usize
-    requires { ⌜ Rowed (now nodes) entry (now places) (now first) ⌝ }
-    ensures { λ r. ⌜ (r < 65536) × ((T : Rowed (old nodes) entry (old places) (old first)) → First60 (entry60s (treeOf (T .view)) entry) r) ⌝ }
-{
-    let mut out = [0u16; 3];
-    let count = linear_tracked::aliases(nodes, entry, places, first, &mut out, 0);
-    if count == 0 {
-        return 0;
-    }
-    wide(out[1])
-}
-
-// What became of an item: how many rows stand in the table, and the place of its first 60, 0 where it has none.
+// What became of an item: how many rows there are, and the place of its first 60, 0 where it has none.
 pub struct Stood {
     pub rows: usize,
     pub alias: usize,
+}
+
+// The rows of an entry are tracked: how many it has itself, and its first 60.
+fn track_entry(
+    words: Words,
+    nodes: &[u8],
+    entry: usize,
+    places: &mut Cells,
+    first: &mut Places,
+    last: &mut Places,
+) -> Stood
+    requires { ⌜ Unrowed (now nodes) words entry (now places) (now first) (now last) ⌝ }
+    ensures { λ r. ⌜ (r .rows ≤ 511) × TakesRows nodes words entry places first last (r .rows) ⌝ }
+    ensures { λ r. ⌜ (r .alias < 65536) × ((T : Unrowed (old nodes) words entry (old places) (old first) (old last)) → First60 (entry60s (treeOf (T .known .view)) entry) (r .alias)) ⌝ }
+{
+    let mut out = [0u16; 3];
+    let tracked = linear_tracked::track(words, nodes, entry, places, first, last, &mut out, 0);
+    let rows = tracked.rows;
+    if tracked.count == 0 {
+        return Stood { rows, alias: 0 };
+    }
+    let alias = wide(out[1]);
+    Stood { rows, alias }
 }
 
 // The rows of an item, if it is an Entry that has no 60. The other tables are left as they were found.
@@ -134,8 +145,9 @@ fn entry(
             alias: 0,
         };
     }
-    let n = linear_tracked::track(words, nodes, item, places, first, last);
-    let alias = first_alias(nodes, item, places, first);
+    let own = track_entry(words, nodes, item, places, first, last);
+    let n = own.rows;
+    let alias = own.alias;
     if alias != 0 {
         return Stood { rows: total, alias };
     }
@@ -175,14 +187,18 @@ fn entries(
     requires { ⌜ LinearTables (now nodes) words (now reader) (now burned) (now places) (now first) (now last) (now tallies) × Clear 1 (now flags) × Holds [] (now table) ⌝ }
     ensures { λ r. ⌜ (r < 65536) × ((T : LinearTables (old nodes) words (old reader) (old burned) (old places) (old first) (old last) (old tallies)) → Cut (T .known .view .image) (new table) r) ⌝ }
 {
-    let end = nodes::end(nodes, 0, 0);
+    let to = nodes::end(nodes, 0, 0);
     let mut total = 0;
-    let mut p = 1;
-    while p < end {
+    let mut children = Cursor {
+        base: 0,
+        at: 1,
+        end: to,
+    };
+    while children.at < children.end {
         let stood = entry(
             words,
             nodes,
-            p,
+            children.at,
             reader,
             burned,
             flags,
@@ -198,7 +214,7 @@ fn entries(
             return alias;
         }
         total = stood.rows;
-        p = nodes::end(nodes, 0, p);
+        children = children.step(nodes).rest;
     }
     0
 }
@@ -209,9 +225,10 @@ fn tracked(image: &[u8], head: Image) -> Table
     ensures { λ r. ⌜ TableOf (old image) r ⌝ }
 {
     let nodes = nodes::area(image, head);
-    let words = linear_tracked::find_words(image, head);
+    let words = names::find_words(image, head);
+    let asset_words = linear_tracked::asset_words(words);
     let mut reader = [false; Image::NAMES];
-    linear_occurrences::mark_readers(image, head, &mut reader);
+    linear_occurrences::mark_readers(words, &mut reader);
     let mut burned = [false; Image::NAMES];
     let mut flags = [false; Image::NODES];
     let mut places = [0u16; 511];
@@ -220,7 +237,7 @@ fn tracked(image: &[u8], head: Image) -> Table
     let mut tallies = [0u16; 1533];
     let mut table = [0u16; 2046];
     let alias = entries(
-        words,
+        asset_words,
         nodes,
         &reader,
         &mut burned,

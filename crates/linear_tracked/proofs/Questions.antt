@@ -1,30 +1,25 @@
--- Which nodes declare a row, from the tests that are passed.
+-- Which parts declare a row, and which are a 60, from the tests that are passed.
 use Prim.Native.Nat.{ℕ, _+_, _<_, _≤_}
 use mathlib.Core.Path.{_≡_, refl, _∙_, sym}
 use mathlib.Core.Bool.{Bool, true, false}
+use mathlib.Core.List.{List}
 use native.Mathlib.Omega.{arith}
 use borrow.Author.Tests.{eq-eqb, ne-eqb, le-ltb, lt-ltb}
+use lib.Dec.{ltb}
 use Rattle.image.specs.Pick.{both}
-use Rattle.rules.specs.Sweep.{either, has, same, hasWord}
-use Rattle.rules.specs.Tree.{Tree, «let», peels}
+use Rattle.rules.specs.Sweep.{either, same, hasWord}
+use Rattle.rules.specs.Tree.{Tree, param, «let», peels}
 use Rattle.rules.specs.Words.{Q-Asset, split, mint}
-use Rattle.rules.specs.Vocabulary.{down, atBottom, isField, isIdent, typed}
-use Rattle.rules.specs.Linear.{produces, isRow, placeOf}
+use Rattle.rules.specs.Vocabulary.{down, someBelow, atBottom, named, isField, isIdent, typed}
+use Rattle.rules.specs.Linear.{produces, isRow, placeOf, isAlias}
 use Rattle.records.proofs.Sweep.{has-one, has-not}
-use Rattle.linear_tracked.specs.Rows.{isAssetParam, isMaker, isAssetLet, Value}
+use Rattle.linear_tracked.specs.Rows.{isMaker, is60}
 
 either-false : (b : Bool) → either b false ≡ b
 either-false true = refl
 either-false false = refl
 
 module _ (t : Tree) (p : ℕ) where
-  pub param-other : (t .kind p ≡ 10 → ⊥) → false ≡ isAssetParam p t
-  param-other n = sym (rw (has-not (t .kind p) 10 n))
-
-  pub param-so : t .kind p ≡ 10 → same (t .text (p + 3)) Q-Asset ≡ isAssetParam p t
-  unfolding typed
-  param-so k = sym (rw (has-one (t .kind p) 10 k))
-
   -- a callee that makes an asset
   pub maker-field : t .kind p ≡ 42 → same (t .text (t .end (p + 1))) split ≡ isMaker p t
   unfolding isField isIdent hasWord
@@ -38,15 +33,6 @@ module _ (t : Tree) (p : ℕ) where
   unfolding isField isIdent
   maker-other m n = sym (rw (ne-eqb (t .kind p) 42 m, ne-eqb (t .kind p) 35 n))
 
-  -- the parts of a row's test
-  pub row-param : isAssetParam p t ≡ true → true ≡ isRow t p
-  unfolding isRow
-  row-param e = sym (rw e)
-
-  pub row-let : isAssetParam p t ≡ false → isAssetLet p t ≡ isRow t p
-  unfolding isRow
-  row-let e = sym (rw e)
-
   pub place-let : t .kind p ≡ 25 → p ≡ placeOf t p
   unfolding placeOf
   place-let k = sym (rw (eq-eqb (t .kind p) 25 k))
@@ -55,54 +41,56 @@ module _ (t : Tree) (p : ℕ) where
   unfolding placeOf
   place-param n = sym (rw (ne-eqb (t .kind p) 25 n))
 
--- the peeled value of a Let
-module _ (t : Tree) (k p : ℕ) where
-  value-none : ((q : ℕ → Bool) → ((v : ℕ) → (t .kind v ≡ k → ⊥) → q v ≡ false) → both (has (t .kind p) «let») (atBottom t peels (p + 2) q) ≡ false) → Value t k p 0
-  value-none f = record {
-    none = λ e. f;
-    is-let = λ l. absurd (omega arith);
-    is-kind = λ l. absurd (omega arith);
-    after = λ l. absurd (omega arith);
-    inside = λ l. absurd (omega arith);
-    is = λ l. absurd (omega arith);
-  }
+-- an asset parameter or an earlier tracked Let has the name w
+abbrev pub isNamedRow : Tree → ℕ → ℕ → List ℕ → Bool
+isNamedRow t e l w = either (someBelow t param e (λ x. both (named t w x) (typed t Q-Asset x))) (someBelow t «let» e (λ x. both (ltb x l) (both (named t w x) (produces t x))))
 
-  pub value-other : (t .kind p ≡ 25 → ⊥) → Value t k p 0
-  value-other n = value-none (λ q f. rw (has-not (t .kind p) 25 n))
+-- whether part p of the entry e declares a row, and whether it is a 60
+module _ (t : Tree) (e p : ℕ) where
+  pub part-other : (t .kind p ≡ 10 → ⊥) → (t .kind p ≡ 25 → ⊥) → (isRow t p ≡ false) × (is60 e p t ≡ false)
+  unfolding isRow
+  part-other m n = (rw (has-not (t .kind p) 10 m, has-not (t .kind p) 25 n), rw (has-not (t .kind p) 25 n))
 
-  module _ (l : t .kind p ≡ 25) (v : ℕ) (d : v ≡ down t peels (p + 2)) where
-    bottom-over : (q : ℕ → Bool) → t .end (p + 2) ≤ v → atBottom t peels (p + 2) q ≡ false
-    unfolding atBottom
-    bottom-over q h = rw (sym d) (simp (le-ltb v (t .end (p + 2)) h))
+  pub part-param : t .kind p ≡ 10 → (isRow t p ≡ same (t .text (p + 3)) Q-Asset) × (is60 e p t ≡ false)
+  unfolding isRow typed
+  part-param k = let n = has-not (t .kind p) 25 (λ z. omega arith) in (rw (has-one (t .kind p) 10 k, n) (either-false _), rw n)
 
-    bottom-so : (q : ℕ → Bool) → v < t .end (p + 2) → atBottom t peels (p + 2) q ≡ q v
-    unfolding atBottom
-    bottom-so q h = rw (sym d) (simp (lt-ltb v (t .end (p + 2)) h))
+  -- of a Let, from what its value peels to
+  module _ (k : t .kind p ≡ 25) (v : ℕ) (d : v ≡ down t peels (p + 2)) where
+    let-row : isRow t p ≡ produces t p
+    unfolding isRow
+    let-row = rw (has-not (t .kind p) 10 (λ z. omega arith), has-one (t .kind p) 25 k)
 
-    at-let : (b : Bool) → both (has (t .kind p) «let») b ≡ b
-    at-let b = rw (has-one (t .kind p) 25 l)
+    let-60 : is60 e p t ≡ atBottom t peels (p + 2) (isAlias t e p)
+    let-60 = rw (has-one (t .kind p) 25 k)
 
-    pub value-over : t .end (p + 2) ≤ v → Value t k p 0
-    value-over h = value-none (λ q f. at-let _ ∙ bottom-over q h)
+    pub let-over : t .end (p + 2) ≤ v → (isRow t p ≡ false) × (is60 e p t ≡ false)
+    unfolding produces atBottom
+    let-over h = (let-row ∙ over _, let-60 ∙ over (isAlias t e p))
+      where
+        over : (q : ℕ → Bool) → atBottom t peels (p + 2) q ≡ false
+        over q = rw (sym d) (simp (le-ltb v (t .end (p + 2)) h))
 
-    pub value-kind : v < t .end (p + 2) → (t .kind v ≡ k → ⊥) → Value t k p 0
-    value-kind h n = value-none (λ q f. at-let _ ∙ bottom-so q h ∙ f v n)
+    module _ (h : v < t .end (p + 2)) where
+      bottom : (q : ℕ → Bool) → atBottom t peels (p + 2) q ≡ q v
+      unfolding atBottom
+      bottom q = rw (sym d) (simp (lt-ltb v (t .end (p + 2)) h))
 
-    pub value-so : v < t .end (p + 2) → t .end (p + 2) ≡ t .end p → p + 2 ≤ v → t .kind v ≡ k → Value t k p v
-    value-so h e a m = record {
-      none = λ z. absurd (omega arith);
-      is-let = λ g. l;
-      is-kind = λ g. m;
-      after = λ g. a;
-      inside = λ g. omega arith;
-      is = λ g q. bottom-so q h;
-    }
+      no-row : (t .kind v ≡ 43 → ⊥) → isRow t p ≡ false
+      unfolding produces
+      no-row n = let-row ∙ bottom _ ∙ rw (ne-eqb (t .kind v) 43 n)
 
--- a Let whose value is no Call, or a Call
-pub let-other : (t : Tree) (p r : ℕ) → Value t 43 p r → r ≡ 0 → false ≡ isAssetLet p t
-unfolding produces
-let-other t p r U e = sym (U .none e _ (λ v n. rw (ne-eqb (t .kind v) 43 n)))
+      no-60 : (t .kind v ≡ 35 → ⊥) → is60 e p t ≡ false
+      unfolding isAlias
+      no-60 n = let-60 ∙ bottom (isAlias t e p) ∙ simp (ne-eqb (t .kind v) 35 n)
 
-pub let-so : (t : Tree) (p r : ℕ) → Value t 43 p r → 0 < r → isMaker (r + 1) t ≡ isAssetLet p t
-unfolding produces
-let-so t p r U l = sym (rw (has-one (t .kind p) 25 (U .is-let l)) (U .is l _ ∙ simp (eq-eqb (t .kind r) 43 (U .is-kind l))))
+      pub let-other : (t .kind v ≡ 43 → ⊥) → (t .kind v ≡ 35 → ⊥) → (isRow t p ≡ false) × (is60 e p t ≡ false)
+      let-other m n = (no-row m, no-60 n)
+
+      pub let-call : t .kind v ≡ 43 → (isRow t p ≡ isMaker (v + 1) t) × (is60 e p t ≡ false)
+      unfolding produces
+      let-call c = (let-row ∙ bottom _ ∙ simp (eq-eqb (t .kind v) 43 c), no-60 (λ z. omega arith))
+
+      pub let-ident : t .kind v ≡ 35 → (isRow t p ≡ false) × (is60 e p t ≡ isNamedRow t e p (t .text v))
+      unfolding isAlias
+      let-ident i = (no-row (λ z. omega arith), let-60 ∙ bottom (isAlias t e p) ∙ simp (eq-eqb (t .kind v) 35 i))

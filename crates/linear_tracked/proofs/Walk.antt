@@ -1,59 +1,63 @@
--- The invariant of the walk over the children of an entry that fills the table of rows.
-use Prim.Native.Nat.{ℕ, suc, _+_, _*_, _-_, _<_, _≤_}
-use mathlib.Core.Path.{_≡_, ap, _∙_, sym}
-use mathlib.Core.Bool.{false}
-use mathlib.Core.List.{List, [], _++_, append-nil, append-assoc}
+-- The walk over the parts of an entry that notes its rows, a part more; and what part p is lent.
+use Prim.Native.Nat.{ℕ, suc, _+_, _<_}
+use mathlib.Core.Path.{_≡_, refl, ap, _∙_, sym}
+use mathlib.Core.Bool.{Bool, true, false, true≢false}
+use mathlib.Core.List.{List, [], _∷_, _++_}
 use native.Mathlib.Nat.{sub-self}
 use native.Mathlib.Omega.{arith}
-use Rattle.rules.specs.Sweep.{run, has}
-use Rattle.rules.specs.Tree.{param-let}
-use Rattle.rules.specs.Vocabulary.{below}
-use Rattle.records.proofs.Sweep.{run-none, run-next, run-sooner, keep-none}
-use Rattle.nodes.specs.Shown.{treeOf}
-use Rattle.nodes.proofs.Parts.{few}
+use Rattle.image.specs.Pick.{both}
+use Rattle.rules.specs.Sweep.{run, keep, has}
+use Rattle.rules.specs.Tree.{Tree, tree, «let», param-let, peels}
+use Rattle.rules.specs.Vocabulary.{below, rec, only, atBottom}
+use Rattle.rules.specs.Linear.{isAlias, rule60}
+use Rattle.records.proofs.Sweep.{run-none, run-on, keep-none}
+use Rattle.nodes.specs.Shown.{In, treeOf}
+use Rattle.nodes.proofs.Shapes.{within}
 use Rattle.linear_tracked.specs.declared.Words.{Words}
-use Rattle.linear_tracked.specs.Rows.{KnownWords, rowAt, rowsOf, Rows}
+use Rattle.linear_tracked.specs.Rows.{rowAt, rowsOf, rowsBefore, is60, at60, Rows, Unrowed, PartAt}
 use Rattle.linear_tracked.proofs.Filled.{rows-as}
 
-run-on : {A : Type 0} (f : ℕ → List A) (a p q : ℕ) → a ≤ p → p < q → ((i : ℕ) → p < i → i < q → f i ≡ []) → run f a (p - a) ++ f p ≡ run f a (q - a)
-run-on {A} f a p q l h g =
-    let e : p + 1 - a ≡ p - a + 1 = omega arith in
-    let d : a + (p - a) ≡ p = omega arith in
-    sym (run-sooner f a (p + 1) q (omega arith) (omega arith) (λ i x y. g i (omega arith) y) ∙ ap (run f a) e ∙ run-next f a (p - a) ∙ ap (λ (j : ℕ). run f a (p - a) ++ f j) d)
+module _ (s : List ℕ) (e : ℕ) {n : ℕ} {places first last : List ℕ} where
+  pub walk-starts : Rows s [] n places first last → Rows s (rowsBefore e (e + 1) (tree s)) n places first last
+  walk-starts R = rows-as (sym (ap (run (λ i. rowAt i (tree s)) (e + 1)) (sub-self (e + 1)) ∙ run-none (λ i. rowAt i (tree s)) (e + 1))) R
 
-pub record Filling (nodes : List ℕ) (words : Words) (from to : ℕ) (places₀ first₀ last₀ : List ℕ) (n : ℕ) (places first last : List ℕ) (p : ℕ) : Type 0 where
-  pub low : from ≤ p
-  pub high : p ≤ to
-  pub few : 4 * n + from ≤ p
-  pub rows : (T : KnownWords nodes words) (xs : List ℕ) → Rows (T .view .image) xs 0 places₀ first₀ last₀ → Rows (T .view .image) (xs ++ run (λ i. rowAt i (treeOf (T .view))) from (p - from)) n places first last
+  -- on to q, past nodes that are no parts
+  pub walk-on : {p q : ℕ} → e < p → p < q → ((i : ℕ) → p < i → i < q → has (tree s .kind i) param-let ≡ false) → Rows s (rowsBefore e p (tree s) ++ rowAt p (tree s)) n places first last → Rows s (rowsBefore e q (tree s)) n places first last
+  walk-on {p} {q} l h z R = rows-as (sym (run-on (λ i. rowAt i (tree s)) (e + 1) p q (omega arith) h (λ i a b. keep-none _ i (z i a b)))) R
 
-module _ {nodes : List ℕ} {words : Words} {from to : ℕ} {places₀ first₀ last₀ : List ℕ} where
-  pub filling-starts : from ≤ to → Filling nodes words from to places₀ first₀ last₀ 0 places₀ first₀ last₀ from
-  filling-starts l = record {
-    low = omega arith;
-    high = l;
-    few = omega arith;
-    rows = λ T xs R. rows-as (sym (ap (λ (m : ℕ). xs ++ run (λ i. rowAt i (treeOf (T .view))) from m) (sub-self from) ∙ ap (λ (m : List ℕ). xs ++ m) (run-none (λ i. rowAt i (treeOf (T .view))) from) ∙ append-nil xs)) R;
-  }
-
-  pub filling-on : {n m p q : ℕ} {places first last places′ first′ last′ : List ℕ} → Filling nodes words from to places₀ first₀ last₀ n places first last p → p < q → q ≤ to → 4 * m + from ≤ q
-      → ((T : KnownWords nodes words) (i : ℕ) → p < i → i < q → has (treeOf (T .view) .kind i) param-let ≡ false)
-      → ((T : KnownWords nodes words) (xs : List ℕ) → Rows (T .view .image) xs n places first last → Rows (T .view .image) (xs ++ rowAt p (treeOf (T .view))) m places′ first′ last′)
-      → Filling nodes words from to places₀ first₀ last₀ m places′ first′ last′ q
-  filling-on {p = p} {q = q} K l h f z G = record {
-    low = let i = K .low in omega arith;
-    high = h;
-    few = f;
-    rows = λ T xs R.
-        let t = treeOf (T .view) in
-        rows-as (append-assoc xs (run (λ i. rowAt i t) from (p - from)) (rowAt p t) ∙ ap (λ (m : List ℕ). xs ++ m) (run-on (λ i. rowAt i t) from p q (K .low) l (λ i a b. keep-none _ i (z T i a b)))) (G T _ (K .rows T xs R));
-  }
-
-  pub filling-done : (e : ℕ) {n p : ℕ} {places first last : List ℕ} → Filling nodes words from to places₀ first₀ last₀ n places first last p → to ≤ p → from ≡ e + 1
-      → (T : KnownWords nodes words) → to ≡ treeOf (T .view) .end e → (xs : List ℕ) → Rows (T .view .image) xs 0 places₀ first₀ last₀ → Rows (T .view .image) (xs ++ rowsOf e (treeOf (T .view))) n places first last
+  pub walk-done : {p : ℕ} → p ≡ tree s .end e → Rows s (rowsBefore e p (tree s)) n places first last → Rows s (rowsOf e (tree s)) n places first last
   unfolding below
-  filling-done e {p = p} K l d T f xs R =
-      let i = K .high in
-      let z : p ≡ to = omega arith in
-      let y : from ≡ suc e = omega arith in
-      rw (z, f, y) at (K .rows T xs R)
+  walk-done {p} f R = let y : e + 1 ≡ suc e = omega arith in rw (f, y) at R
+
+abbrev pub part-at : {nodes : List ℕ} {words : Words} {e n p : ℕ} {places₀ first₀ last₀ places first last : List ℕ} (T : Unrowed nodes words e places₀ first₀ last₀) → e < p → p < treeOf (T .known .view) .end e
+    → Rows (T .known .view .image) (rowsBefore e p (treeOf (T .known .view))) n places first last → PartAt nodes words p first
+part-at {e = e} T a b R = record {
+  known = T .known;
+  entry = e;
+  is-entry = T .is-entry;
+  here = T .here;
+  after = a;
+  inside = b;
+  first-rows = R .first-rows;
+}
+
+pub part-in : {nodes : List ℕ} {words : Words} {p : ℕ} {first : List ℕ} → PartAt nodes words p first → In nodes 0 p
+part-in T = within (T .known .view) (T .here) (T .after) (T .inside)
+
+-- 60 at a part, from the test
+module _ (t : Tree) (e p : ℕ) where
+  pub at60-none : is60 e p t ≡ false → at60 p t e ≡ []
+  unfolding keep rule60 only
+  at60-none d = go (has (t .kind p) «let») d
+    where
+      go : (c : Bool) → both c (atBottom t peels (p + 2) (isAlias t e p)) ≡ false → keep c (rule60 t e) p ≡ []
+      go true z = rw z
+      go false z = refl
+
+  pub at60-one : is60 e p t ≡ true → at60 p t e ≡ rec 60 p 0 ∷ []
+  unfolding keep rule60 only
+  at60-one d = go (has (t .kind p) «let») d
+    where
+      go : (c : Bool) → both c (atBottom t peels (p + 2) (isAlias t e p)) ≡ true → keep c (rule60 t e) p ≡ rec 60 p 0 ∷ []
+      go true z = rw z
+      go false z = absurd (true≢false (sym z))

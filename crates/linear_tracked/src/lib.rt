@@ -1,6 +1,6 @@
-// The tracked rows of an entry ("Linear" of document 01): which of its nodes declare one, the walk that collects them, and 60, the Lets that are another name of one.
-use image::Image;
+// The tracked rows of an entry ("Linear" of document 01): which of its parts declare one, which Lets are another name of one (60), and the one walk that collects both.
 use nodes::CALL;
+use nodes::Cursor;
 use nodes::FIELD;
 use nodes::IDENT;
 use nodes::LET;
@@ -15,14 +15,15 @@ ghost use Rattle.rules.specs.Sweep.{same};
 ghost use Rattle.rules.specs.Tree.{«let»};
 ghost use Rattle.rules.specs.Words.{Q-Asset, split, mint};
 ghost use Rattle.rules.specs.Vocabulary.{below, named};
-ghost use Rattle.rules.specs.Linear.{isRow, placeOf, rule60};
+ghost use Rattle.rules.specs.Linear.{placeOf, rule60};
 ghost use Rattle.records.specs.Words.{old, new};
-ghost use Rattle.records.specs.Records.{Adds, Asks};
-ghost use Rattle.nodes.specs.Shown.{View, In, Worded, Admitted, treeOf};
+ghost use Rattle.records.specs.Records.{Adds};
+ghost use Rattle.nodes.specs.Shown.{View, In, Worded, treeOf};
 ghost use Rattle.names.specs.Found.{Numbered};
+ghost use Rattle.names.specs.Spelled.{WordsOf};
 ghost use Rattle.places.specs.declared.Note.the-variants.{Off};
 ghost use Rattle.places.specs.Places.{Noted, Notes, noting};
-ghost use Rattle.linear_tracked.specs.Rows.{KnownWords, SaysOf, isAssetParam, isMaker, isAssetLet, Value, rowAt, rowsOf, Grows, Placed, Clears, PlaceOf, Rowed, Tracked, at60};
+ghost use Rattle.linear_tracked.specs.Rows.{SaysOf, isMaker, at60, Unrowed, PartAt, SaysPart, IsLet, TakesRow, TakesRows, Placed, Clears, PlaceOf};
 
 // One cell for each of the at most 511 rows of an entry.
 pub type Cells = [u16; 511];
@@ -40,44 +41,15 @@ fn wide(x: u16) -> usize
     x as usize
 }
 
-// The three words, looked up once.
-pub fn find_words(image: &[u8], head: Image) -> Words
-    requires { ⌜ Admitted (now image) head ⌝ }
-    ensures { λ r. ⌜ Numbered (old image) Q-Asset (r .asset) × Numbered (old image) split (r .split) × Numbered (old image) mint (r .mint) ⌝ }
+// These three of all the words.
+pub fn asset_words(words: names::Words) -> Words
+    ensures { λ r. ⌜ ((s : List ℕ) → WordsOf s words → Numbered s Q-Asset (r .asset) × Numbered s split (r .split) × Numbered s mint (r .mint)) ⌝ }
 {
-    let asset = names::number_of(image, head, b"Q_Asset");
-    let split = names::number_of(image, head, b"split");
-    let mint = names::number_of(image, head, b"mint");
-    Words { asset, split, mint }
-}
-
-// Whether p is a parameter of type `Q_Asset`.
-fn is_asset_param(words: Words, nodes: &[u8], p: usize) -> bool
-    requires { ⌜ View (now nodes) 0 × In (now nodes) 0 p ⌝ }
-    ensures { λ r. ⌜ SaysOf (isAssetParam p) nodes words r ⌝ }
-{
-    if nodes::kind(nodes, 0, p) != PARAM {
-        return false;
+    Words {
+        asset: words.asset,
+        split: words.methods.split,
+        mint: words.builtins.mint,
     }
-    names::is_word(words.asset, nodes, 0, p + 3)
-}
-
-// The peeled value of p, if p is a Let and its value of this kind; else 0.
-fn peeled_value(kind: usize, nodes: &[u8], p: usize) -> usize
-    requires { ⌜ View (now nodes) 0 × In (now nodes) 0 p ⌝ }
-    ensures { λ r. ⌜ ((W : View (old nodes) 0) → Value (treeOf W) kind p r) ⌝ }
-{
-    if nodes::kind(nodes, 0, p) != LET {
-        return 0;
-    }
-    let value = nodes::down(Past::Peels, nodes, 0, p + 2);
-    if nodes::end(nodes, 0, p + 2) <= value {
-        return 0;
-    }
-    if nodes::kind(nodes, 0, value) != kind {
-        return 0;
-    }
-    value
 }
 
 // Whether the callee x is Field `split` or Ident `mint`.
@@ -92,27 +64,54 @@ fn is_maker(words: Words, nodes: &[u8], x: usize) -> bool
     }
 }
 
-// Whether p is a Let whose peeled value makes an asset.
-fn produces_asset(words: Words, nodes: &[u8], p: usize) -> bool
-    requires { ⌜ View (now nodes) 0 × In (now nodes) 0 p ⌝ }
-    ensures { λ r. ⌜ SaysOf (isAssetLet p) nodes words r ⌝ }
-{
-    let call = peeled_value(CALL, nodes, p);
-    if call == 0 {
-        return false;
-    }
-    is_maker(words, nodes, call + 1)
+// What a part of an entry is: the Param or the Let of an asset, which declares a row; a Let that is another name of an earlier row, a 60; or neither.
+pub enum Part {
+    Row,
+    Alias,
+    Other,
 }
 
-// Whether node p declares a row: it is the Param or the Let of an asset.
-fn is_row(words: Words, nodes: &[u8], p: usize) -> bool
-    requires { ⌜ View (now nodes) 0 × In (now nodes) 0 p ⌝ }
-    ensures { λ r. ⌜ SaysOf (λ t. isRow t p) nodes words r ⌝ }
+// What a Let is, by its peeled value: a Call that makes an asset, or an Ident whose name has a row. The rows noted so far are the earlier ones.
+fn let_part(words: Words, nodes: &[u8], p: usize, first: &Places) -> Part
+    requires { ⌜ PartAt (now nodes) words p (now first) × IsLet (now nodes) p ⌝ }
+    ensures { λ r. ⌜ SaysPart nodes words p first r ⌝ }
 {
-    if is_asset_param(words, nodes, p) {
-        return true;
+    let value = nodes::down(Past::Peels, nodes, 0, p + 2);
+    if nodes::end(nodes, 0, p + 2) <= value {
+        return Part::Other;
     }
-    produces_asset(words, nodes, p)
+    match nodes::kind(nodes, 0, value) {
+        CALL => {
+            if is_maker(words, nodes, value + 1) {
+                return Part::Row;
+            }
+            Part::Other
+        }
+        IDENT => {
+            if places::at(first, nodes, 0, value) == 0 {
+                return Part::Other;
+            }
+            Part::Alias
+        }
+        _ => Part::Other,
+    }
+}
+
+// What part p of an entry is.
+fn part_of(words: Words, nodes: &[u8], p: usize, first: &Places) -> Part
+    requires { ⌜ PartAt (now nodes) words p (now first) ⌝ }
+    ensures { λ r. ⌜ SaysPart nodes words p first r ⌝ }
+{
+    match nodes::kind(nodes, 0, p) {
+        PARAM => {
+            if names::is_word(words.asset, nodes, 0, p + 3) {
+                return Part::Row;
+            }
+            Part::Other
+        }
+        LET => let_part(words, nodes, p, first),
+        _ => Part::Other,
+    }
 }
 
 // The place of the row that p declares: the Let, or the Name of the Param.
@@ -135,8 +134,14 @@ fn note_row(note: Note, row: usize, nodes: &[u8], p: usize, rows: &mut Places)
     rows[i] = places::taken(note, rows[i], row as u16);
 }
 
-// One more row, after the n rows before, if node p declares one. A row's node has at least four nodes.
-fn add_row(
+// How far a walk over the parts of an entry has come: so many rows, and so many records of the list.
+pub struct Tracked {
+    pub rows: usize,
+    pub count: usize,
+}
+
+// Part p, after n rows and `count` records: a row more, a 60 more, or neither.
+fn take_part(
     words: Words,
     nodes: &[u8],
     p: usize,
@@ -144,20 +149,32 @@ fn add_row(
     places: &mut Cells,
     first: &mut Places,
     last: &mut Places,
-) -> usize
-    requires { ⌜ KnownWords (now nodes) words × In (now nodes) 0 p × (4 * n < p) ⌝ }
-    ensures { λ r. ⌜ ((T : KnownWords (old nodes) words) → 4 * r + p ≤ 4 * n + treeOf (T .view) .end p) × Grows (rowAt p) nodes words n places first last r ⌝ }
+    out: &mut [u16],
+    count: usize,
+) -> Tracked
+    requires { ⌜ PartAt (now nodes) words p (now first) × (4 * n < p) × (count < 2 ^ 51) ⌝ }
+    ensures { λ r. ⌜ TakesRow nodes words p n places first last (r .rows) ⌝ }
+    ensures { λ r. ⌜ Adds (λ (T : PartAt (old nodes) words p (old first)). at60 p (treeOf (T .known .view)) (T .entry)) 1 out count (r .count) ⌝ }
 {
-    if !is_row(words, nodes, p) {
-        return n;
+    match part_of(words, nodes, p, first) {
+        Part::Row => {
+            places[n] = place_of(nodes, p) as u16;
+            note_row(Note::First, n + 1, nodes, p + 1, first);
+            note_row(Note::Last, n + 1, nodes, p + 1, last);
+            Tracked { rows: n + 1, count }
+        }
+        Part::Alias => {
+            let total = records::emit(out, count, 60, p as u16, 0);
+            Tracked {
+                rows: n,
+                count: total,
+            }
+        }
+        Part::Other => Tracked { rows: n, count },
     }
-    places[n] = place_of(nodes, p) as u16;
-    note_row(Note::First, n + 1, nodes, p + 1, first);
-    note_row(Note::Last, n + 1, nodes, p + 1, last);
-    n + 1
 }
 
-// The rows of an entry in order; gives their number. Each has four nodes of the entry at least.
+// The rows of an entry and its 60s, both in order, in one walk over its parts. Each row has four nodes of the entry at least.
 pub fn track(
     words: Words,
     nodes: &[u8],
@@ -165,18 +182,35 @@ pub fn track(
     places: &mut Cells,
     first: &mut Places,
     last: &mut Places,
-) -> usize
-    requires { ⌜ KnownWords (now nodes) words × In (now nodes) 0 entry × (0 < entry) ⌝ }
-    ensures { λ r. ⌜ (r ≤ 511) × Grows (rowsOf entry) nodes words 0 places first last r × ((T : KnownWords (old nodes) words) → 4 * r + entry < treeOf (T .view) .end entry) ⌝ }
+    out: &mut [u16],
+    count: usize,
+) -> Tracked
+    requires { ⌜ Unrowed (now nodes) words entry (now places) (now first) (now last) × (count < 2 ^ 50) ⌝ }
+    ensures { λ r. ⌜ (r .rows ≤ 511) × TakesRows nodes words entry places first last (r .rows) ⌝ }
+    ensures { λ r. ⌜ Adds (λ (T : Unrowed (old nodes) words entry (old places) (old first) (old last)). below (treeOf (T .known .view)) «let» entry (rule60 (treeOf (T .known .view)) entry)) 2048 out count (r .count) ⌝ }
 {
-    let end = nodes::end(nodes, 0, entry);
-    let mut n = 0;
-    let mut p = entry + 1;
-    while p < end {
-        n = add_row(words, nodes, p, n, places, first, last);
-        p = nodes::end(nodes, 0, p);
+    let to = nodes::end(nodes, 0, entry);
+    let mut tracked = Tracked { rows: 0, count };
+    let mut children = Cursor {
+        base: 0,
+        at: entry + 1,
+        end: to,
+    };
+    while children.at < children.end {
+        tracked = take_part(
+            words,
+            nodes,
+            children.at,
+            tracked.rows,
+            places,
+            first,
+            last,
+            out,
+            tracked.count,
+        );
+        children = children.step(nodes).rest;
     }
-    n
+    tracked
 }
 
 // The node that has the name of the row at this place: the place itself, or the node after a Let.
@@ -208,43 +242,4 @@ pub fn untrack(n: usize, nodes: &[u8], places: &Cells, rows: &mut Places)
         untrack_row(nodes, wide(places[k]), rows);
         k += 1;
     }
-}
-
-// 60 at a node of an entry: a Let whose peeled value is an Ident of the name of an earlier row.
-fn is_asset_alias(nodes: &[u8], p: usize, places: &Cells, first: &Places) -> bool
-    requires { ⌜ Tracked (now nodes) p (now places) (now first) ⌝ }
-    ensures { λ r. ⌜ Asks (λ (T : Tracked (old nodes) p (old places) (old first)). at60 p (treeOf (T .rowed .view)) (T .entry)) 60 p r ⌝ }
-{
-    let ident = peeled_value(IDENT, nodes, p);
-    if ident == 0 {
-        return false;
-    }
-    let row = places::at(first, nodes, 0, ident);
-    if row == 0 {
-        return false;
-    }
-    let k = row - 1;
-    wide(places[k]) < p
-}
-
-// 60: the Lets of an entry in order.
-pub fn aliases(
-    nodes: &[u8],
-    entry: usize,
-    places: &Cells,
-    first: &Places,
-    out: &mut [u16],
-    count: usize,
-) -> usize
-    requires { ⌜ Rowed (now nodes) entry (now places) (now first) × (count < 2 ^ 50) ⌝ }
-    ensures { λ r. ⌜ Adds (λ (T : Rowed (old nodes) entry (old places) (old first)). below (treeOf (T .view)) «let» entry (rule60 (treeOf (T .view)) entry)) 2048 out count r ⌝ }
-{
-    let end = nodes::end(nodes, 0, entry);
-    let mut total = count;
-    let mut p = entry + 1;
-    while p < end {
-        total = records::emit_if(is_asset_alias(nodes, p, places, first), out, total, 60, p);
-        p = nodes::end(nodes, 0, p);
-    }
-    total
 }

@@ -15,7 +15,11 @@ use Rattle.nodes.proofs.Marking.{marking-none}
 use Rattle.names.specs.Found.{Numbered}
 use Rattle.model.specs.declared.Question.{Question}
 use Rattle.model.specs.Questions.{questionOf}
-use Rattle.names.proofs.Words.{either-assoc}
+use Rattle.model.specs.Assets.{Assets, AssetWords}
+use Rattle.names.proofs.Several.{either-assoc}
+
+abbrev pub assets-of : {nodes : List ℕ} {qtov asset : ℕ} → AssetWords nodes qtov asset → Assets nodes asset
+assets-of K = record { view = K .view; numbered = K .asset-is }
 
 -- the known assets: those declared, `QTOV`, and those inside
 pub known-of : {s : List ℕ} {r : List Bool} → Marks s (λ w. marking true (either (isDeclaredAsset (tree s) w) (same w QTOV)) (someBelow (tree s) type 0 (inner (tree s) w))) r → Marks s (isKnownAsset (tree s)) r

@@ -1,3 +1,5 @@
 pub mod Inner
+pub mod Types
+pub mod Items
 pub mod Lacking
 pub mod Known

@@ -1,12 +1,15 @@
 // "Model" of document 01: the tables of state names, declared assets and known assets, one mark for each name, and the three questions about a name.
 use image::Image;
 use nodes::ASSET;
+use nodes::Cursor;
+use nodes::ENTRY;
 use nodes::FIELD_DECL;
 use nodes::Marks;
 use nodes::TYPE;
 ghost use mathlib.Core.Path.{_≡_};
 ghost use mathlib.Core.Bool.{true, false};
 ghost use mathlib.Core.List.{[], _∷_};
+ghost use Prim.Native.Nat.{_<_};
 ghost use Rattle.rules.specs.Tree.{tree};
 ghost use Rattle.rules.specs.Vocabulary.{declares};
 ghost use Rattle.rules.specs.Model.{isState, isDeclaredAsset, isKnownAsset};
@@ -15,7 +18,7 @@ ghost use Rattle.nodes.specs.Shown.{View, In, Admitted, treeOf};
 ghost use Rattle.nodes.specs.Marks.{Marks, Turns, Makes};
 ghost use Rattle.nodes.specs.First.{Declaring};
 ghost use Rattle.model.specs.Questions.{questionOf, ofNoName};
-ghost use Rattle.model.specs.Assets.{Assets, Inside, Gains, insideAt, inside};
+ghost use Rattle.model.specs.Assets.{Assets, AssetWords, TypesEnd, Inside, Gains, Knows, insideAt, insideItem, inside};
 
 // The questions about a name.
 pub enum Question {
@@ -84,31 +87,68 @@ fn mark_inner(nodes: &[u8], y: usize, asset: usize, known: &mut Marks)
     }
 }
 
-// The marks of the names that a `Q_Asset` has inside, at any level, by a walk over the types of the contract.
-fn mark_inners(nodes: &[u8], asset: usize, known: &mut Marks)
-    requires { ⌜ Assets (now nodes) asset × In (now nodes) 0 0 ⌝ }
-    ensures { λ _. ⌜ Gains (λ (A : Assets (old nodes) asset). inside A) known ⌝ }
+// Up to where the types of an item stand: an entry's before its first statement, those of any other item before its end.
+fn types_end(nodes: &[u8], item: usize) -> usize
+    requires { ⌜ View (now nodes) 0 × In (now nodes) 0 item × (0 < item) ⌝ }
+    ensures { λ r. ⌜ ((W : View (old nodes) 0) → TypesEnd W item r) ⌝ }
 {
-    let end = nodes::end(nodes, 0, 0);
-    let mut p = 1;
-    while p < end {
+    if nodes::kind(nodes, 0, item) == ENTRY {
+        return nodes::first_statement(nodes, 0, item);
+    }
+    nodes::end(nodes, 0, item)
+}
+
+// The marks of the names that a `Q_Asset` has inside, at any level, in an item: by a walk over its types, which goes past an item that holds none.
+fn mark_item(nodes: &[u8], item: usize, asset: usize, known: &mut Marks)
+    requires { ⌜ Assets (now nodes) asset × In (now nodes) 0 item × (0 < item) ⌝ }
+    ensures { λ _. ⌜ Gains (λ (A : Assets (old nodes) asset). insideItem item A) known ⌝ }
+{
+    let to = types_end(nodes, item);
+    let mut p = item;
+    while p < to {
         mark_inner(nodes, p, asset, known);
         p = nodes::next_type(nodes, 0, p);
     }
 }
 
-// The marks of the known assets: those declared, `QTOV`, and what a `Q_Asset` has inside; no type is one where no name is `Q_Asset`.
-pub fn mark_known(image: &[u8], head: Image, known: &mut Marks)
+// The marks of the names that a `Q_Asset` has inside, item by item.
+fn mark_inners(nodes: &[u8], asset: usize, known: &mut Marks)
+    requires { ⌜ Assets (now nodes) asset × In (now nodes) 0 0 ⌝ }
+    ensures { λ _. ⌜ Gains (λ (A : Assets (old nodes) asset). inside A) known ⌝ }
+{
+    let to = nodes::end(nodes, 0, 0);
+    let mut children = Cursor {
+        base: 0,
+        at: 1,
+        end: to,
+    };
+    while children.at < children.end {
+        mark_item(nodes, children.at, asset, known);
+        children = children.step(nodes).rest;
+    }
+}
+
+// The marks of the known assets, where those declared are marked already: `QTOV`, and what a `Q_Asset` has inside. The numbers are those of the two words; no type is a `Q_Asset` where its number is 0.
+pub fn mark_known(nodes: &[u8], qtov: usize, asset: usize, known: &mut Marks)
+    requires { ⌜ AssetWords (now nodes) qtov asset × In (now nodes) 0 0 ⌝ }
+    ensures { λ _. ⌜ Knows nodes qtov asset known ⌝ }
+{
+    names::mark_number(qtov, known);
+    if 0 < asset {
+        mark_inners(nodes, asset, known);
+    }
+}
+
+// The marks of the known assets of an image, with the two words looked up.
+fn find_known(image: &[u8], head: Image, known: &mut Marks)
     requires { ⌜ Admitted (now image) head ⌝ }
     ensures { λ _. ⌜ (Marks (old image) (λ w. false) (old known) → Marks (old image) (isKnownAsset (tree (old image))) (new known)) ⌝ }
 {
     let nodes = nodes::area(image, head);
     mark_declared(nodes, known);
-    names::mark_word(image, head, b"QTOV", known);
+    let qtov = names::number_of(image, head, b"QTOV");
     let asset = names::number_of(image, head, b"Q_Asset");
-    if 0 < asset {
-        mark_inners(nodes, asset, known);
-    }
+    mark_known(nodes, qtov, asset, known);
 }
 
 // The marks of the names of which the answer to a question is yes.
@@ -119,7 +159,7 @@ fn mark_yes(question: Question, image: &[u8], head: Image, marks: &mut Marks)
     match question {
         Question::State => mark_state(nodes::area(image, head), marks),
         Question::Declared => mark_declared(nodes::area(image, head), marks),
-        Question::Known => mark_known(image, head, marks),
+        Question::Known => find_known(image, head, marks),
     }
 }
 

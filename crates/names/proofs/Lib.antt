@@ -4,4 +4,4 @@ pub mod Search
 pub mod Located
 pub mod Said
 pub mod Marked
-pub mod Words
+pub mod Several

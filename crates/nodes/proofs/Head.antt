@@ -1,5 +1,5 @@
 -- The head of an entry, before its first statement: its parameters and clauses all stand there.
-use Prim.Native.Nat.{ℕ, _<_, _≤_}
+use Prim.Native.Nat.{ℕ, _+_, _*_, _-_, _<_, _≤_}
 use mathlib.Core.Path.{_≡_, refl, _∙_, sym, ap}
 use mathlib.Core.Bool.{Bool, true, false, true≢false}
 use mathlib.Core.List.{List, [], _∷_}
@@ -10,10 +10,17 @@ use borrow.Author.Tests.{ne-eqb}
 use Rattle.image.proofs.Decide.{lt-or-ge}
 use Rattle.rules.specs.Sweep.{has}
 use Rattle.rules.specs.Standing.{parts}
-use Rattle.nodes.specs.Shown.{treeOf}
-use Rattle.nodes.specs.First.{heads, Head, Until}
-use Rattle.nodes.proofs.Shapes.{allIn, not-in, one-in, no-part, ends-within}
+use Rattle.rules.specs.Tree.{statement}
+use Rattle.rules.specs.Vocabulary.{Rec, below}
+use Rattle.records.specs.Records.{Added}
+use Rattle.records.proofs.Sweep.{run-sooner, run-below, keep-none}
+use Rattle.nodes.specs.Shown.{View, treeOf}
+use Rattle.nodes.specs.First.{heads, Starts, Head, Until}
+use Rattle.nodes.proofs.Parts.{kind-is, end-is}
+use Rattle.nodes.proofs.Shapes.{allIn, not-in, one-in, no-part, within, ends-within, skips-parts}
 use Rattle.nodes.proofs.Flat.{cover, no-statement, statements-are}
+use Rattle.nodes.proofs.Steps.{Walk, at-kind, walk-starts, walk-on, walk-all}
+use Rattle.nodes.proofs.Until.{until-span, until-on}
 
 -- no statement, whose kind is 24 to 28, is a parameter or a clause
 no-head : (k : ℕ) → 24 ≤ k → has k heads ≡ false
@@ -77,3 +84,70 @@ head-part k h = in-or (has k parts) refl
     in-or : (x : Bool) → has k parts ≡ x → has k parts ≡ true
     in-or true e = e
     in-or false e = absurd (true≢false (sym h ∙ no-part-head k e))
+
+nearer : {p q to : ℕ} → (p < q) × (q ≤ to) → to - q < to - p
+nearer m = let l = m .0 in let h = m .1 in omega arith
+
+-- A walk over the head that adds records, by the nodes of kinds that stand there alone: it is one over all of the entry.
+module _ {part : List ℕ} {b e to : ℕ} (H : Head part b e to) where
+  ends : Until part b e to 10
+  unfolding has
+  ends = until-head H 10 refl
+
+  same-end : (W : View part b) → treeOf (H .view) .end e ≡ treeOf W .end e
+  same-end W = sym (end-is (H .view) (H .here)) ∙ end-is W (H .here)
+
+  pub head-is : (W : View part b) → treeOf W .kind e ≡ 9
+  head-is W = sym (kind-is W (H .here)) ∙ kind-is (H .view) (H .here) ∙ H .is-entry
+
+  alike : (W : View part b) (i : ℕ) → e < i → i < treeOf W .end e → treeOf W .kind i ≡ treeOf (H .view) .kind i
+  alike W i l h = let j = within W (H .here) {q = i} l h in sym (kind-is W j) ∙ kind-is (H .view) j
+
+  pub head-first : (W : View part b) → Starts W e to
+  head-first W =
+      let d = same-end W in
+      let s = H .first .inside in
+      let a = H .first .after in
+      record {
+        after = a;
+        inside = omega arith;
+        none = λ i l h. ap (λ (x : ℕ). has x statement) (alike W i l (omega arith)) ∙ H .first .none i l h;
+        is = λ h. ap (λ (x : ℕ). has x statement) (alike W to a h) ∙ H .first .is (omega arith);
+      }
+
+  pub head-end : (W : View part b) → to ≤ treeOf W .end e
+  head-end W = let d = same-end W in let i = H .first .inside in omega arith
+
+  behind : (W : View part b) (j : ℕ) → to ≤ j → j < treeOf W .end e → has (treeOf W .kind j) heads ≡ false
+  behind W j l h =
+      let a = H .first .after in
+      let d = same-end W in
+      let i = within W (H .here) {q = j} (omega arith) h in
+      ap (λ (x : ℕ). has x heads) (sym (kind-is W i) ∙ kind-is (H .view) i) ∙ rest H j l (omega arith)
+
+  module _ {X : Type 0} {view : X → View part b} {ks : List ℕ} {f : X → ℕ → List Rec} {most : ℕ} {o₀ : List ℕ} {k₀ : ℕ} where
+    pub head-starts : Walk view ks f (e + 1) to most o₀ k₀ o₀ k₀ (e + 1)
+    head-starts = walk-starts (until-span ends)
+
+    module _ {o : List ℕ} {k p : ℕ} (w : Walk view ks f (e + 1) to most o₀ k₀ o k p) where
+      pub head-moves : {q : ℕ} → p < to → ((W : View part b) → q ≡ treeOf W .end p) → (p < q) × (q ≤ to)
+      head-moves h d = let l = w .sweep .low in until-on ends (omega arith) h d
+
+      pub head-less : {q : ℕ} → p < to → ((W : View part b) → q ≡ treeOf W .end p) → to - q < to - p
+      head-less h d = nearer (head-moves h d)
+
+      pub head-skips : allIn ks parts ≡ true → {q : ℕ} → p < to → ((W : View part b) → q ≡ treeOf W .end p) → (W : View part b) (j : ℕ) → p < j → j < q → has (treeOf W .kind j) ks ≡ false
+      head-skips al h d W = let l = w .sweep .low in let i = H .first .inside in let u = same-end W in skips-parts ks al W (H .here) (H .positive) (omega arith) (omega arith) (d W)
+
+      pub head-on : allIn ks parts ≡ true → {q : ℕ} → p < to → ((W : View part b) → q ≡ treeOf W .end p) → {o′ : List ℕ} {k′ : ℕ} → Added (λ x. at-kind view ks f x p) most o k o′ k′ → Walk view ks f (e + 1) to most o₀ k₀ o′ k′ q
+      head-on al h d n = walk-on w n (head-moves h d) (λ y. head-skips al h d (view y))
+
+      pub head-done : allIn ks heads ≡ true → to ≤ p → Added (λ x. below (treeOf (view x)) ks e (f x)) (most * 2048) o₀ k₀ o k
+      head-done al h =
+          walk-all w h
+          (λ x.
+          let a = H .first .after in
+          let i = H .first .inside in
+          let u = same-end (view x) in
+          sym (run-sooner (at-kind view ks f x) (e + 1) to (treeOf (view x) .end e) (omega arith) (omega arith) (λ j l g. keep-none (f x) j (not-in heads _ ks al (behind (view x) j l g))))
+          ∙ run-below (treeOf (view x)) ks (f x) e (e + 1) (treeOf (view x) .end e) refl refl)

@@ -18,3 +18,5 @@ pub mod Steps
 pub mod Until
 pub mod Head
 pub mod Admission
+pub mod Cursors
+pub mod Glance

@@ -13,8 +13,7 @@ use Rattle.image.proofs.Every.{every-at, both-left, both-right}
 use Rattle.image.proofs.Shape.{Child, first-of, family-is, name-kind, field-at}
 use Rattle.image.proofs.Nest.{nests}
 use Rattle.rules.specs.Sweep.{has, either}
-use Rattle.rules.specs.All.{items}
-use Rattle.rules.specs.Standing.{parts}
+use Rattle.rules.specs.Standing.{all-items, parts}
 use Rattle.rules.proofs.Admitted.{no-item-below, no-part-below}
 use Rattle.nodes.specs.Shown.{View, In, treeOf}
 use Rattle.nodes.specs.First.{nameFirst, NameFirst}
@@ -94,7 +93,7 @@ module _ {part : List ℕ} {b p : ℕ} (W : View part b) (i : In part b p) where
 
 -- a walk from child to child leaves out no item of the contract, and no part of an item
 module _ {part : List ℕ} {b : ℕ} (W : View part b) where
-  pub no-item : {p : ℕ} → In part b p → 0 < p → (j : ℕ) → p < j → j < treeOf W .end p → has (treeOf W .kind j) items ≡ false
+  pub no-item : {p : ℕ} → In part b p → 0 < p → (j : ℕ) → p < j → j < treeOf W .end p → has (treeOf W .kind j) all-items ≡ false
   no-item {p} i z j l h = let u = inside W i in let v = W .shown .high in no-item-below (W .image) (W .shown .admitted) p j z (omega arith) l h
 
   pub no-part : {a p : ℕ} → In part b a → 0 < a → a < p → p < treeOf W .end a → (j : ℕ) → p < j → j < treeOf W .end p → has (treeOf W .kind j) parts ≡ false
@@ -123,8 +122,8 @@ unfolding allIn
 one-in k l e = rw e
 
 -- kinds that are items, or parts: a walk from child to child leaves out none of them
-pub skips-items : (ks : List ℕ) → allIn ks items ≡ true → {part : List ℕ} {b p q : ℕ} (W : View part b) → In part b p → 0 < p → q ≡ treeOf W .end p → (j : ℕ) → p < j → j < q → has (treeOf W .kind j) ks ≡ false
-skips-items ks a W i z e j l h = not-in items (treeOf W .kind j) ks a (no-item W i z j l (omega arith))
+pub skips-items : (ks : List ℕ) → allIn ks all-items ≡ true → {part : List ℕ} {b p q : ℕ} (W : View part b) → In part b p → 0 < p → q ≡ treeOf W .end p → (j : ℕ) → p < j → j < q → has (treeOf W .kind j) ks ≡ false
+skips-items ks a W i z e j l h = not-in all-items (treeOf W .kind j) ks a (no-item W i z j l (omega arith))
 
 pub skips-parts : (ks : List ℕ) → allIn ks parts ≡ true → {part : List ℕ} {b p q r : ℕ} (W : View part b) → In part b p → 0 < p → p < q → q < treeOf W .end p → r ≡ treeOf W .end q → (j : ℕ) → q < j → j < r → has (treeOf W .kind j) ks ≡ false
 skips-parts ks a W i z g k e j l h = not-in parts (treeOf W .kind j) ks a (no-part W i z g k j l (omega arith))

@@ -10,8 +10,7 @@ use lib.ListN.{length}
 use Rattle.image.specs.Admit.{nodesOf}
 use Rattle.image.proofs.Row.{Kids, kids-next}
 use Rattle.rules.specs.Sweep.{run, keep, has}
-use Rattle.rules.specs.All.{items}
-use Rattle.rules.specs.Standing.{parts}
+use Rattle.rules.specs.Standing.{all-items, parts}
 use Rattle.rules.specs.Tree.{statement}
 use Rattle.rules.specs.Vocabulary.{Rec, below}
 use Rattle.rules.proofs.Admitted.{no-part-below}
@@ -84,7 +83,7 @@ module _ {X : Type 0} {nodes : List ℕ} {b : ℕ} (view : X → View nodes b) (
     pub sweep : Sweeping at-kind from to most o₀ k₀ o k p
 
 module _ {X : Type 0} {nodes : List ℕ} {b : ℕ} {view : X → View nodes b} {ks : List ℕ} {f : X → ℕ → List Rec} {from to most : ℕ} {o₀ : List ℕ} {k₀ : ℕ} where
-  walk-starts : Span nodes b from to → Walk view ks f from to most o₀ k₀ o₀ k₀ from
+  pub walk-starts : Span nodes b from to → Walk view ks f from to most o₀ k₀ o₀ k₀ from
   walk-starts S = record { span = S; sweep = sweep-starts (S .order) }
 
   pub walk-on : {o o′ : List ℕ} {k k′ p q : ℕ} → Walk view ks f from to most o₀ k₀ o k p → Added (λ x. at-kind view ks f x p) most o k o′ k′ → (p < q) × (q ≤ to)
@@ -92,7 +91,7 @@ module _ {X : Type 0} {nodes : List ℕ} {b : ℕ} {view : X → View nodes b} {
   walk-on w a m z = record { span = w .span; sweep = sweep-on (w .sweep) a (m .0) (m .1) (λ x j l h. keep-none (f x) j (z x j l h)) }
 
   -- all of it
-  walk-all : {L : X → List Rec} {o : List ℕ} {k p : ℕ} → Walk view ks f from to most o₀ k₀ o k p → to ≤ p → ((x : X) → run (at-kind view ks f x) from (to - from) ≡ L x) → Added L (most * 2048) o₀ k₀ o k
+  pub walk-all : {L : X → List Rec} {o : List ℕ} {k p : ℕ} → Walk view ks f from to most o₀ k₀ o k p → to ≤ p → ((x : X) → run (at-kind view ks f x) from (to - from) ≡ L x) → Added L (most * 2048) o₀ k₀ o k
   walk-all w h e = swept (w .sweep) h e (mul-le-mul-left most (let u = w .span .under in omega arith))
 
 -- the nodes below a
@@ -112,7 +111,7 @@ module _ (a : ℕ) {X : Type 0} {nodes : List ℕ} {b : ℕ} {view : X → View 
   parts-on al x i z e w h d n = walk-on w n (below-moves x i e w h d) (λ y. let l = w .sweep .low in let u = e (view y) in skips-parts ks al (view y) i z (omega arith) (omega arith) (d (view y)))
 
 -- on to the next item of the contract: none is left out
-pub items-on : {X : Type 0} {nodes : List ℕ} {b : ℕ} {view : X → View nodes b} {ks : List ℕ} {f : X → ℕ → List Rec} {to most : ℕ} {o₀ o o′ : List ℕ} {k₀ k k′ p q : ℕ} → allIn ks items ≡ true → X → In nodes b 0 → ((W : View nodes b) → to ≡ treeOf W .end 0)
+pub items-on : {X : Type 0} {nodes : List ℕ} {b : ℕ} {view : X → View nodes b} {ks : List ℕ} {f : X → ℕ → List Rec} {to most : ℕ} {o₀ o o′ : List ℕ} {k₀ k k′ p q : ℕ} → allIn ks all-items ≡ true → X → In nodes b 0 → ((W : View nodes b) → to ≡ treeOf W .end 0)
     → Walk view ks f 1 to most o₀ k₀ o k p → p < to → ((W : View nodes b) → q ≡ treeOf W .end p) → Added (λ x. at-kind view ks f x p) most o k o′ k′ → Walk view ks f 1 to most o₀ k₀ o′ k′ q
 items-on {view = view} {ks = ks} al x i e w h d n = walk-on w n (below-moves 0 x i e w h d) (λ y. let l = w .sweep .low in let u = e (view y) in skips-items ks al (view y) (within (view y) i l (omega arith)) l (d (view y)))
 

@@ -5,7 +5,8 @@ ghost use mathlib.Core.Bool.{Bool};
 ghost use mathlib.Core.List.{List, [], _∷_};
 ghost use Prim.Native.Nat.{ℕ, _+_, _-_, _<_, _≤_};
 ghost use Rattle.image.specs.Admit.{nodeCount};
-ghost use Rattle.rules.specs.Sweep.{also, has, same, hasWord};
+ghost use lib.Dec.{eqb};
+ghost use Rattle.rules.specs.Sweep.{also, either, has, same, hasWord};
 ghost use Rattle.rules.specs.Tree.{peels, state, type-holders, bodied, statement};
 ghost use Rattle.rules.specs.Vocabulary.{someBelow, named, down, isIdent, isField};
 ghost use Rattle.records.specs.Words.{old, new};
@@ -14,6 +15,8 @@ ghost use Rattle.nodes.specs.Marks.{Marks, Turns};
 ghost use Rattle.nodes.specs.Past.{takenOff};
 ghost use Rattle.nodes.specs.First.{NameFirst, HeadPart, Starts, Body, Head};
 ghost use Rattle.nodes.specs.Walk.{onward};
+ghost use Rattle.nodes.specs.Cursors.{Stepped};
+ghost use Rattle.nodes.specs.Items.{ItemsOf};
 
 // One mark for each of 1,024 names, by name number less one.
 pub type Marks = [bool; Image::NAMES];
@@ -99,6 +102,36 @@ pub fn name(nodes: &[u8], base: usize, p: usize) -> usize
     image::name(nodes, p - base)
 }
 
+// A position among the children of a node, in a part of the node area whose first node is number `base`: at the next child, or at the end of those that are walked over.
+pub struct Cursor {
+    pub base: usize,
+    pub at: usize,
+    pub end: usize,
+}
+
+// One step: the child that the cursor was at, and the cursor moved past it.
+pub struct Step {
+    pub child: usize,
+    pub rest: Cursor,
+}
+
+impl Cursor {
+    // Past the child at the cursor: the next one begins at its end. This is the one place where a walk goes from child to child.
+    pub fn step(self, nodes: &[u8]) -> Step
+        requires { ⌜ In (now nodes) (self .base) (self .at) ⌝ }
+        ensures { λ r. ⌜ Stepped (old nodes) self r ⌝ }
+    {
+        let base = self.base;
+        let child = self.at;
+        let to = self.end;
+        let at = end(nodes, base, child);
+        Step {
+            child,
+            rest: Cursor { base, at, end: to },
+        }
+    }
+}
+
 // Whether the word of node p is marked.
 pub fn is_marked(marks: &Marks, nodes: &[u8], base: usize, p: usize) -> bool
     requires { ⌜ Worded (now nodes) base p ⌝ }
@@ -132,10 +165,14 @@ pub fn mark_parts(sort: usize, nodes: &[u8], entry: usize, to: usize, on: bool, 
     requires { ⌜ HeadPart sort × Head (now nodes) 0 entry to ⌝ }
     ensures { λ _. ⌜ Turns on (λ (W : View (old nodes) 0) w. someBelow (treeOf W) (sort ∷ []) entry (named (treeOf W) w)) marks ⌝ }
 {
-    let mut p = entry + 1;
-    while p < to {
-        mark_name(sort, nodes, p, on, marks);
-        p = end(nodes, 0, p);
+    let mut children = Cursor {
+        base: 0,
+        at: entry + 1,
+        end: to,
+    };
+    while children.at < children.end {
+        mark_name(sort, nodes, children.at, on, marks);
+        children = children.step(nodes).rest;
     }
 }
 
@@ -224,6 +261,50 @@ pub fn next_type(nodes: &[u8], base: usize, p: usize) -> usize
     end(nodes, base, p)
 }
 
+// Which items a contract has: an Event, a Genesis. Where it has none, what is asked of them is not asked.
+pub struct Items {
+    pub event: bool,
+    pub genesis: bool,
+}
+
+// Whether one of two holds.
+fn either(a: bool, b: bool) -> bool
+    ensures { λ r. ⌜ r ≡ either a b ⌝ }
+{
+    if a { true } else { b }
+}
+
+// With one more item, of kind k.
+fn with_item(items: Items, k: usize) -> Items
+    ensures { λ r. ⌜ (r .event ≡ either (eqb k 5) (items .event)) × (r .genesis ≡ either (eqb k 7) (items .genesis)) ⌝ }
+{
+    let event = either(k == EVENT, items.event);
+    let genesis = either(k == GENESIS, items.genesis);
+    Items { event, genesis }
+}
+
+// The items of a contract at a glance.
+pub fn find_items(nodes: &[u8]) -> Items
+    requires { ⌜ View (now nodes) 0 × In (now nodes) 0 0 ⌝ }
+    ensures { λ r. ⌜ ItemsOf (old nodes) r ⌝ }
+{
+    let to = end(nodes, 0, 0);
+    let mut items = Items {
+        event: false,
+        genesis: false,
+    };
+    let mut children = Cursor {
+        base: 0,
+        at: 1,
+        end: to,
+    };
+    while children.at < children.end {
+        items = with_item(items, kind(nodes, 0, children.at));
+        children = children.step(nodes).rest;
+    }
+    items
+}
+
 // Genesis and Entry, the items that hold statements.
 pub fn is_bodied(k: usize) -> bool
     ensures { λ r. ⌜ r ≡ has k bodied ⌝ }
@@ -250,14 +331,19 @@ pub fn first_statement(nodes: &[u8], base: usize, entry: usize) -> usize
     ensures { λ r. ⌜ ((W : View (old nodes) base) → Starts W entry r) ⌝ }
 {
     let to = end(nodes, base, entry);
-    let mut p = entry + 1;
-    while p < to {
+    let mut children = Cursor {
+        base,
+        at: entry + 1,
+        end: to,
+    };
+    while children.at < children.end {
+        let p = children.at;
         if is_statement(kind(nodes, base, p)) {
             return p;
         }
-        p = end(nodes, base, p);
+        children = children.step(nodes).rest;
     }
-    p
+    children.at
 }
 
 // The statements of an entry, from the first one on, as their own part of the node area.

@@ -1,5 +1,6 @@
 // One node for each name: the first, or the last, of a kind below a node that has it as its Name ("met before", "no such Let in an earlier statement", "the event's last declaration" of document 01).
 use image::Image;
+use nodes::Cursor;
 ghost use mathlib.Core.Path.{_≡_};
 ghost use mathlib.Core.List.{List, [], _∷_};
 ghost use Prim.Native.Nat.{ℕ, _+_, _-_, _<_};
@@ -77,10 +78,14 @@ fn note_until(note: Note, kind: usize, nodes: &[u8], entry: usize, to: usize, pl
     requires { ⌜ NamedPart kind × Until (now nodes) 0 entry to kind ⌝ }
     ensures { λ _. ⌜ Notes (λ (W : View (old nodes) 0). notesBelow note (treeOf W) (kind ∷ []) entry) places ⌝ }
 {
-    let mut p = entry + 1;
-    while p < to {
-        note_node(note, kind, nodes, p, places);
-        p = nodes::end(nodes, 0, p);
+    let mut children = Cursor {
+        base: 0,
+        at: entry + 1,
+        end: to,
+    };
+    while children.at < children.end {
+        note_node(note, kind, nodes, children.at, places);
+        children = children.step(nodes).rest;
     }
 }
 

@@ -4,17 +4,17 @@ use mathlib.Core.Bool.{Bool, false}
 use mathlib.Core.List.{List, _++_, append-assoc}
 use mathlib.Core.Path.{_≡_}
 use lib.ListN.{replicate}
-use Rattle.image.specs.Admit.{nodeCount}
-use Rattle.rules.specs.Tree.{Tree, tree}
-use Rattle.rules.specs.Words.{mint-asset, Q-Address}
+use Rattle.rules.specs.Tree.{Tree}
+use Rattle.rules.specs.Words.{Q-Address}
 use Rattle.rules.specs.Model.{isState, isStateTyped, isDeclaredAsset, isKnownAsset}
 use Rattle.rules.specs.Resolve.{group32, group33, group35, resolve}
-use Rattle.nodes.specs.Shown.{Shown, treeOf}
-use Rattle.nodes.specs.Marks.{Marks, Made}
+use Rattle.nodes.specs.Shown.{treeOf}
+use Rattle.nodes.specs.Marks.{Marks}
 use Rattle.nodes.specs.State.{State}
 use Rattle.nodes.proofs.Names.{marks-none}
-use Rattle.nodes.proofs.Heads.{view-of, root-of}
-use Rattle.names.specs.Found.{Numbered}
+use Rattle.names.specs.declared.Words.{Words}
+use Rattle.names.specs.Spelled.{Looked}
+use Rattle.model.specs.Assets.{AssetWords}
 use Rattle.resolve_calls.specs.Called as calls
 use Rattle.resolve_calls.specs.Called.{isBuiltin, isMethod}
 use Rattle.resolve_clauses.specs.Said as clauses
@@ -49,25 +49,37 @@ module _ {nodes : List ℕ} {address : ℕ} {state declared known fields params 
     known-marks = T .known-marks;
   }
 
-module _ {s nodes : List ℕ} (S : Shown s nodes 0 (nodeCount s)) where
-  pub none : Marks s (λ w. false) (replicate 1024 false)
-  none = marks-none s (S .admitted)
+-- what the groups are lent, out of what was looked up for all passes
+module _ {nodes : List ℕ} {words : Words} {state : List Bool} (T : Looked nodes words state) where
+  abbrev image : List ℕ
+  image = T .view .image
 
-  abbrev pub named-of : {mint : ℕ} {state : List Bool} → Made isState nodes (replicate 1024 false) state → Numbered s mint-asset mint → LentFirst nodes mint state
-  named-of f n = record { view = view-of S; root = root-of S; mint-number = n; state-marks = f (view-of S) none }
+  pub none : Marks image (λ w. false) (replicate 1024 false)
+  none = marks-none image (T .view .shown .admitted)
 
-  module _ {state builtin method : List Bool} (f : Made isState nodes (replicate 1024 false) state) (b : Marks s (λ w. false) (replicate 1024 false) → Marks s isBuiltin builtin) (m : Marks s (λ w. false) (replicate 1024 false) → Marks s isMethod method) where
+  abbrev pub first-of : LentFirst nodes (words .builtins .«mint_asset») state
+  first-of = record { view = T .view; root = T .root; mint-number = T .words-are .builtins-are .mint-asset-is; state-marks = T .state-marks }
+
+  abbrev pub deployer-of : clauses.DeployerIs nodes (words .deployer)
+  deployer-of = record { view = T .view; is = T .words-are .deployer-is }
+
+  abbrev pub typing-of : calls.AddressTyping nodes (words .address)
+  typing-of = record { view = T .view; address-number = T .words-are .address-is }
+
+  abbrev pub asset-words-of : AssetWords nodes (words .qtov) (words .asset)
+  asset-words-of = record { view = T .view; qtov-is = T .words-are .qtov-is; asset-is = T .words-are .asset-is }
+
+  module _ {builtin method : List Bool} (b : Marks image isBuiltin builtin) (m : Marks image isMethod method) where
     abbrev pub worded-of : CallTables nodes state builtin method
-    worded-of = record { view = view-of S; state-marks = f (view-of S) none; builtin-marks = b none; method-marks = m none }
+    worded-of = record { view = T .view; state-marks = T .state-marks; builtin-marks = b; method-marks = m }
 
-    abbrev pub tables-of : {address : ℕ} {declared known fields : List Bool} → Made isDeclaredAsset nodes (replicate 1024 false) declared → (Marks s (λ w. false) (replicate 1024 false) → Marks s (isKnownAsset (tree s)) known)
-        → (n : Numbered s Q-Address address) → ((T : calls.AddressTyping nodes address) → Marks (T .view .image) (λ w. false) (replicate 1024 false) → Marks (T .view .image) (isStateTyped (treeOf (T .view)) Q-Address) fields)
-        → ResolveTables nodes address state declared known fields (replicate 1024 false) builtin method
-    tables-of d k n a = record {
-      called = record { view = view-of S; address-number = n; field-marks = a (record { view = view-of S; address-number = n }) none; clean = none; builtin-marks = b none; method-marks = m none };
-      state-marks = f (view-of S) none;
-      declared-marks = d (view-of S) none;
-      known-marks = k none;
+    abbrev pub tables-of : {declared known fields : List Bool} → Marks image (isDeclaredAsset (treeOf (T .view))) declared → Marks image (isKnownAsset (treeOf (T .view))) known → Marks image (isStateTyped (treeOf (T .view)) Q-Address) fields
+        → ResolveTables nodes (words .address) state declared known fields (replicate 1024 false) builtin method
+    tables-of d k a = record {
+      called = record { view = T .view; address-number = T .words-are .address-is; field-marks = a; clean = none; builtin-marks = b; method-marks = m };
+      state-marks = T .state-marks;
+      declared-marks = d;
+      known-marks = k;
     }
 
 -- the groups in order

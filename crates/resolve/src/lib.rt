@@ -1,31 +1,38 @@
 // The resolve pass: codes 20 to 40 of document 01, as the pass's part of the list, the groups in order.
 use image::Image;
+use names::Words;
+use nodes::Cursor;
 use nodes::ENTRY;
 use nodes::GENESIS;
+use nodes::Items;
 use nodes::Marks;
 use nodes::NAME;
 use resolve_clauses::Rule;
 ghost use mathlib.Core.Path.{_≡_};
+ghost use mathlib.Core.Bool.{false};
+ghost use mathlib.Core.List.{_++_};
 ghost use Prim.Native.Nat.{_*_, _<_, _^_};
-ghost use Rattle.rules.specs.Tree.{tree};
+ghost use Rattle.rules.specs.Tree.{genesis};
 ghost use Rattle.rules.specs.Resolve.{group33, group35, resolve};
 ghost use Rattle.records.specs.Words.{old, new};
 ghost use Rattle.records.specs.Records.{Adds};
-ghost use Rattle.nodes.specs.Shown.{In, Admitted};
-ghost use Rattle.resolve_clauses.specs.Said.{IsEntry};
+ghost use Rattle.nodes.specs.Shown.{In};
+ghost use Rattle.nodes.specs.First.{Head};
+ghost use Rattle.nodes.specs.Items.{ItemsOf, NoItem};
+ghost use Rattle.names.specs.Spelled.{Looked, looked};
 ghost use Rattle.resolve.specs.Tables.{LentFirst, CallTables, Called, ResolveTables, item33, entryCalls, item35, firstGroups, lentFirst, worded, called, lent, CleansParams};
 
 // 20, 21, 22, 23, 24 to 29, 30 and 31; `mint_asset` has the number `mint`.
-fn first_groups(nodes: &[u8], mint: usize, state: &Marks, out: &mut [u16]) -> usize
-    requires { ⌜ LentFirst (now nodes) mint (now state) ⌝ }
+fn first_groups(nodes: &[u8], items: Items, mint: usize, state: &Marks, out: &mut [u16]) -> usize
+    requires { ⌜ LentFirst (now nodes) mint (now state) × ItemsOf (now nodes) items ⌝ }
     ensures { λ r. ⌜ Adds (lentFirst firstGroups nodes mint state) (2 ^ 35) out 0 r ⌝ }
 {
     let fields = resolve_names::group20(nodes, out, 0);
-    let events = resolve_names::group21(nodes, out, fields);
+    let events = resolve_names::group21(items.event, nodes, out, fields);
     let mints = resolve_calls::group22(nodes, mint, out, events);
     let overloads = signature::group23(nodes, out, mints);
     let names = resolve_names::group24(nodes, state, out, overloads);
-    resolve_events::group30(nodes, out, names)
+    resolve_events::group30(nodes, items, out, names)
 }
 
 // 33, then 34, in an item, if it is a Genesis.
@@ -50,8 +57,9 @@ fn genesis(
     resolve_calls::calls34(body, first, builtin, method, out, total)
 }
 
-// 33 and 34: each Genesis.
+// 33 and 34: each Genesis; nothing where the contract has none.
 fn group33(
+    has: bool,
     nodes: &[u8],
     state: &Marks,
     builtin: &Marks,
@@ -59,23 +67,31 @@ fn group33(
     out: &mut [u16],
     count: usize,
 ) -> usize
-    requires { ⌜ CallTables (now nodes) (now state) (now builtin) (now method) × In (now nodes) 0 0 × (count < 2 ^ 40) ⌝ }
+    requires { ⌜ CallTables (now nodes) (now state) (now builtin) (now method) × In (now nodes) 0 0 × (count < 2 ^ 40) × (has ≡ false → NoItem genesis (now nodes)) ⌝ }
     ensures { λ r. ⌜ Adds (worded group33 nodes state builtin method) (4096 * 2048) out count r ⌝ }
 {
+    if !has {
+        return count;
+    }
     let end = nodes::end(nodes, 0, 0);
     let mut total = count;
-    let mut p = 1;
-    while p < end {
-        total = genesis(nodes, p, state, builtin, method, out, total);
-        p = nodes::end(nodes, 0, p);
+    let mut children = Cursor {
+        base: 0,
+        at: 1,
+        end,
+    };
+    while children.at < children.end {
+        total = genesis(nodes, children.at, state, builtin, method, out, total);
+        children = children.step(nodes).rest;
     }
     total
 }
 
-// 40, then 34, in an entry's statements. Its parameters of type `Q_Address` are marked, and the marks taken off again.
+// 40, then 34, in an entry's statements, from `first` on; where one sweep finds neither, nothing more is sought. Its parameters of type `Q_Address` are marked, and the marks taken off again.
 fn entry_calls(
     nodes: &[u8],
     entry: usize,
+    first: usize,
     address: usize,
     fields: &Marks,
     params: &mut Marks,
@@ -84,15 +100,18 @@ fn entry_calls(
     out: &mut [u16],
     count: usize,
 ) -> usize
-    requires { ⌜ Called (now nodes) address (now fields) (now params) (now builtin) (now method) × IsEntry (now nodes) entry × (count < 2 ^ 48) ⌝ }
+    requires { ⌜ Called (now nodes) address (now fields) (now params) (now builtin) (now method) × Head (now nodes) 0 entry first × (count < 2 ^ 48) ⌝ }
     ensures { λ r. ⌜ Adds (called (entryCalls entry) nodes address fields params builtin method) 4096 out count r ⌝ }
     ensures { λ _. ⌜ CleansParams nodes address fields params builtin method ⌝ }
 {
-    resolve_calls::mark_params(nodes, entry, address, true, params);
-    let first = nodes::first_statement(nodes, 0, entry);
+    resolve_calls::mark_params(nodes, entry, first, address, true, params);
     let body = nodes::statements(nodes, 0, entry, first);
+    if resolve_calls::is_clean(body, first, fields, params, builtin, method) {
+        resolve_calls::mark_params(nodes, entry, first, address, false, params);
+        return count;
+    }
     let total = resolve_calls::calls40(body, first, fields, params, out, count);
-    resolve_calls::mark_params(nodes, entry, address, false, params);
+    resolve_calls::mark_params(nodes, entry, first, address, false, params);
     resolve_calls::calls34(body, first, builtin, method, out, total)
 }
 
@@ -118,11 +137,21 @@ fn entry(
     if nodes::kind(nodes, 0, item) != ENTRY {
         return count;
     }
-    let signed = resolve_clauses::signers(Rule(NAME, false, 35), nodes, item, state, out, count);
-    let listed = resolve_clauses::clauses(nodes, item, state, declared, known, out, signed);
+    let first = nodes::first_statement(nodes, 0, item);
+    let signed = resolve_clauses::signers(
+        Rule(NAME, false, 35),
+        nodes,
+        item,
+        first,
+        state,
+        out,
+        count,
+    );
+    let listed = resolve_clauses::clauses(nodes, item, first, state, declared, known, out, signed);
     entry_calls(
         nodes,
         item,
+        first,
         address,
         fields,
         params,
@@ -152,11 +181,15 @@ fn group35(
 {
     let end = nodes::end(nodes, 0, 0);
     let mut total = count;
-    let mut p = 1;
-    while p < end {
+    let mut children = Cursor {
+        base: 0,
+        at: 1,
+        end,
+    };
+    while children.at < children.end {
         total = entry(
             nodes,
-            p,
+            children.at,
             address,
             state,
             declared,
@@ -168,39 +201,40 @@ fn group35(
             out,
             total,
         );
-        p = nodes::end(nodes, 0, p);
+        children = children.step(nodes).rest;
     }
     total
 }
 
-// The records of the resolve pass of an admitted image, from the buffer's start.
-pub fn list(image: &[u8], head: Image, out: &mut [u16]) -> usize
-    requires { ⌜ Admitted (now image) head ⌝ }
-    ensures { λ r. ⌜ Adds (λ (_ : Unit {0}). resolve (tree (old image))) (2 ^ 38) out 0 r ⌝ }
+// 33 to 40: the tables that these groups ask, and the groups. `has`: whether the contract has a Genesis.
+fn last_groups(
+    nodes: &[u8],
+    words: Words,
+    has: bool,
+    state: &Marks,
+    out: &mut [u16],
+    count: usize,
+) -> usize
+    requires { ⌜ Looked (now nodes) words (now state) × (count < 2 ^ 39) × (has ≡ false → NoItem genesis (now nodes)) ⌝ }
+    ensures { λ r. ⌜ Adds (looked (λ t. group33 t ++ group35 t) nodes words state) (2 ^ 35) out count r ⌝ }
 {
-    let nodes = nodes::area(image, head);
-    let mut state = [false; Image::NAMES];
-    model::mark_state(nodes, &mut state);
     let mut declared = [false; Image::NAMES];
     model::mark_declared(nodes, &mut declared);
-    let mut known = [false; Image::NAMES];
-    model::mark_known(image, head, &mut known);
-    let address = names::number_of(image, head, b"Q_Address");
+    let mut known = declared;
+    model::mark_known(nodes, words.qtov, words.asset, &mut known);
+    let address = words.address;
     let mut fields = [false; Image::NAMES];
     resolve_calls::mark_fields(nodes, address, &mut fields);
     let mut builtin = [false; Image::NAMES];
-    resolve_calls::mark_builtins(image, head, &mut builtin);
+    resolve_calls::mark_builtins(words.builtins, &mut builtin);
     let mut method = [false; Image::NAMES];
-    resolve_calls::mark_methods(image, head, &mut method);
+    resolve_calls::mark_methods(words.methods, &mut method);
     let mut params = [false; Image::NAMES];
-    let mint = names::number_of(image, head, b"mint_asset");
-    let total = first_groups(nodes, mint, &state, out);
-    let total = resolve_clauses::group32(image, head, out, total);
-    let total = group33(nodes, &state, &builtin, &method, out, total);
+    let total = group33(has, nodes, state, &builtin, &method, out, count);
     group35(
         nodes,
         address,
-        &state,
+        state,
         &declared,
         &known,
         &fields,
@@ -210,4 +244,16 @@ pub fn list(image: &[u8], head: Image, out: &mut [u16]) -> usize
         out,
         total,
     )
+}
+
+// The records of the resolve pass, from the buffer's start; words and state names were looked up before.
+pub fn list(nodes: &[u8], words: Words, state: &Marks, out: &mut [u16]) -> usize
+    requires { ⌜ Looked (now nodes) words (now state) ⌝ }
+    ensures { λ r. ⌜ Adds (looked resolve nodes words state) (2 ^ 38) out 0 r ⌝ }
+{
+    let items = nodes::find_items(nodes);
+    let builtins = words.builtins;
+    let first = first_groups(nodes, items, builtins.mint_asset, state, out);
+    let total = resolve_clauses::group32(nodes, words.deployer, out, first);
+    last_groups(nodes, words, items.genesis, state, out, total)
 }

@@ -1,17 +1,20 @@
 // Calls: codes 22, 34 and 40 of document 01.
-use image::Image;
+use names::Builtins;
+use names::Methods;
 use nodes::ASSET;
 use nodes::CALL;
 use nodes::CALLER;
+use nodes::Cursor;
 use nodes::FIELD_DECL;
 use nodes::IDENT;
 use nodes::Marks;
 use nodes::PARAM;
 use nodes::Past;
 ghost use mathlib.Core.Path.{_≡_};
-ghost use mathlib.Core.Bool.{Bool, false};
-ghost use mathlib.Core.List.{List};
+ghost use mathlib.Core.Bool.{Bool, true, false};
+ghost use mathlib.Core.List.{List, []};
 ghost use Prim.Native.Nat.{ℕ, _*_, _<_, _^_};
+ghost use Rattle.image.specs.Admit.{refusal};
 ghost use Rattle.rules.specs.Sweep.{also, has};
 ghost use Rattle.rules.specs.Tree.{param, peels-fields};
 ghost use Rattle.rules.specs.Words.{Q-Address};
@@ -20,8 +23,10 @@ ghost use Rattle.rules.specs.Model.{isStateTyped};
 ghost use Rattle.rules.specs.Resolve.{isAddress, manyAssets, mintCalls, group22};
 ghost use Rattle.records.specs.Words.{old, new};
 ghost use Rattle.records.specs.Records.{Adds, Asks};
-ghost use Rattle.nodes.specs.Shown.{View, In, Admitted, treeOf};
+ghost use Rattle.nodes.specs.Shown.{View, In, treeOf};
 ghost use Rattle.nodes.specs.Marks.{Marks};
+ghost use Rattle.nodes.specs.First.{Head};
+ghost use Rattle.names.specs.Spelled.{BuiltinsOf, MethodsOf};
 ghost use Rattle.resolve_calls.specs.Called.{isBuiltin, isMethod, paramAt, paramTyped, Minting, AddressTyping, CallWords, Calling, at22, at34, at40, item22, minted, known, called, swept22, swept34, swept40, TypesField, TurnsTyped};
 
 // 34 at a node of an item's statements: a Call of neither a word that may be called nor a method.
@@ -114,31 +119,57 @@ pub fn calls40(
     total
 }
 
-// The marks of the words that a Call may call.
-pub fn mark_builtins(image: &[u8], head: Image, builtin: &mut Marks)
-    requires { ⌜ Admitted (now image) head ⌝ }
-    ensures { λ _. ⌜ (Marks (old image) (λ w. false) (old builtin) → Marks (old image) isBuiltin (new builtin)) ⌝ }
+// Whether no Call in an entry's statements, lent as their own part of the node area, is one of 40 or of 34: where none is, one sweep does for both.
+pub fn is_clean(
+    nodes: &[u8],
+    base: usize,
+    fields: &Marks,
+    params: &Marks,
+    builtin: &Marks,
+    method: &Marks,
+) -> bool
+    requires { ⌜ Calling (now nodes) base (now fields) (now params) × CallWords (now nodes) base (now builtin) (now method) ⌝ }
+    ensures { λ r. ⌜ (r ≡ true → ((T : Calling (old nodes) base (old fields) (old params)) → swept40 nodes base fields params T ≡ []) × ((T : CallWords (old nodes) base (old builtin) (old method)) → swept34 nodes base builtin method T ≡ [])) ⌝ }
 {
-    names::mark_word(image, head, b"send", builtin);
-    names::mark_word(image, head, b"send_asset", builtin);
-    names::mark_word(image, head, b"mint", builtin);
-    names::mark_word(image, head, b"mint_asset", builtin);
+    let end = base + nodes.len() / 16;
+    let mut p = base;
+    while p < end {
+        if rule34(nodes, base, p, builtin, method) {
+            return false;
+        }
+        if rule40(nodes, base, p, fields, params) {
+            return false;
+        }
+        p += 1;
+    }
+    true
+}
+
+// The marks of the words that a Call may call.
+pub fn mark_builtins(words: Builtins, builtin: &mut Marks)
+    requires { ⌜ ((s : List ℕ) × (refusal s ≡ 0) × BuiltinsOf s words) ⌝ }
+    ensures { λ _. ⌜ ((s : List ℕ) → refusal s ≡ 0 → BuiltinsOf s words → Marks s (λ w. false) (old builtin) → Marks s isBuiltin (new builtin)) ⌝ }
+{
+    names::mark_number(words.send, builtin);
+    names::mark_number(words.send_asset, builtin);
+    names::mark_number(words.mint, builtin);
+    names::mark_number(words.mint_asset, builtin);
 }
 
 // The marks of the words that a Call may call of a base.
-pub fn mark_methods(image: &[u8], head: Image, method: &mut Marks)
-    requires { ⌜ Admitted (now image) head ⌝ }
-    ensures { λ _. ⌜ (Marks (old image) (λ w. false) (old method) → Marks (old image) isMethod (new method)) ⌝ }
+pub fn mark_methods(words: Methods, method: &mut Marks)
+    requires { ⌜ ((s : List ℕ) × (refusal s ≡ 0) × MethodsOf s words) ⌝ }
+    ensures { λ _. ⌜ ((s : List ℕ) → refusal s ≡ 0 → MethodsOf s words → Marks s (λ w. false) (old method) → Marks s isMethod (new method)) ⌝ }
 {
-    names::mark_word(image, head, b"get", method);
-    names::mark_word(image, head, b"contains", method);
-    names::mark_word(image, head, b"split", method);
-    names::mark_word(image, head, b"set", method);
-    names::mark_word(image, head, b"remove", method);
-    names::mark_word(image, head, b"merge", method);
-    names::mark_word(image, head, b"insert", method);
-    names::mark_word(image, head, b"debit", method);
-    names::mark_word(image, head, b"credit", method);
+    names::mark_number(words.get, method);
+    names::mark_number(words.contains, method);
+    names::mark_number(words.split, method);
+    names::mark_number(words.set, method);
+    names::mark_number(words.remove, method);
+    names::mark_number(words.merge, method);
+    names::mark_number(words.insert, method);
+    names::mark_number(words.debit, method);
+    names::mark_number(words.credit, method);
 }
 
 // A FieldDecl: the mark of its Name says whether it is of type `Q_Address`, which has the number `address`.
@@ -181,19 +212,29 @@ fn mark_param(nodes: &[u8], p: usize, address: usize, on: bool, params: &mut Mar
     }
 }
 
-// The marks of an entry's parameters that are of type `Q_Address` are set, or taken off; none where the image has no such name.
-pub fn mark_params(nodes: &[u8], entry: usize, address: usize, on: bool, params: &mut Marks)
-    requires { ⌜ AddressTyping (now nodes) address × In (now nodes) 0 entry × (0 < entry) ⌝ }
+// The marks of an entry's parameters that are of type `Q_Address` are set, or taken off, by a walk over its children before `to`, its first statement; none where the image has no such name.
+pub fn mark_params(
+    nodes: &[u8],
+    entry: usize,
+    to: usize,
+    address: usize,
+    on: bool,
+    params: &mut Marks,
+)
+    requires { ⌜ AddressTyping (now nodes) address × Head (now nodes) 0 entry to ⌝ }
     ensures { λ _. ⌜ TurnsTyped on nodes address (λ t w. paramTyped t entry w) params ⌝ }
 {
     if address < 1 {
         return;
     }
-    let end = nodes::end(nodes, 0, entry);
-    let mut p = entry + 1;
-    while p < end {
-        mark_param(nodes, p, address, on, params);
-        p = nodes::end(nodes, 0, p);
+    let mut children = Cursor {
+        base: 0,
+        at: entry + 1,
+        end: to,
+    };
+    while children.at < children.end {
+        mark_param(nodes, children.at, address, on, params);
+        children = children.step(nodes).rest;
     }
 }
 
@@ -246,10 +287,14 @@ fn mint_calls(nodes: &[u8], mint: usize, out: &mut [u16], count: usize) -> usize
 {
     let end = nodes::end(nodes, 0, 0);
     let mut total = count;
-    let mut p = 1;
-    while p < end {
-        total = item22(nodes, p, mint, out, total);
-        p = nodes::end(nodes, 0, p);
+    let mut children = Cursor {
+        base: 0,
+        at: 1,
+        end,
+    };
+    while children.at < children.end {
+        total = item22(nodes, children.at, mint, out, total);
+        children = children.step(nodes).rest;
     }
     total
 }

@@ -8,7 +8,7 @@ use native.Mathlib.Omega.{arith}
 use borrow.Author.Tests.{ne-eqb}
 use Rattle.image.specs.Pick.{every}
 use lib.ListN.{replicate}
-use Rattle.image.specs.Admit.{nodeCount}
+use Rattle.image.specs.Admit.{refusal}
 use Rattle.rules.specs.Sweep.{either, run, keep, has, same}
 use Rattle.rules.specs.Tree.{Tree, ident, invariant, limits-denies-after, statement}
 use Rattle.rules.specs.Words.{deployer}
@@ -22,21 +22,21 @@ use Rattle.nodes.specs.Shown.{View, Shown, In, treeOf}
 use Rattle.nodes.specs.First.{Starts}
 use Rattle.nodes.specs.Marks.{Marks}
 use Rattle.nodes.proofs.Names.{marks-none}
-use Rattle.nodes.proofs.Heads.{view-of}
 use Rattle.nodes.proofs.Ranges.{ranged, into}
 use Rattle.nodes.proofs.Shapes.{within}
 use Rattle.nodes.proofs.Flat.{flat}
 use Rattle.names.specs.Found.{Numbered}
 use Rattle.names.proofs.Said.{unsaid}
-use Rattle.resolve_clauses.specs.Said.{OneTable, Deployed, identRules, item32}
+use Rattle.resolve_clauses.specs.Said.{OneTable, Deployed, DeployerIs, identRules, item32}
 use Rattle.resolve_clauses.proofs.Hits.{signer-in}
 
 abbrev pub table-of : {nodes : List ℕ} {base : ℕ} {marks : List Bool} → Deployed nodes base marks → OneTable nodes base marks
 table-of T = record { view = T .view; says = λ w. same w deployer; tells = T .tells }
 
--- the nodes of an image, and a fresh table in which the word was marked
-abbrev pub deployed-of : {s nodes : List ℕ} {marks : List Bool} → Shown s nodes 0 (nodeCount s) → ((P : List ℕ → Bool) → Marks s P (replicate 1024 false) → Marks s (λ w. either (P w) (same w deployer)) marks) → Deployed nodes 0 marks
-deployed-of {s} S f = record { view = view-of S; tells = f (λ w. false) (marks-none s (S .admitted)) }
+-- a fresh table in which the word of this number was marked
+abbrev pub deployed-of : {nodes : List ℕ} {number : ℕ} {marks : List Bool} (T : DeployerIs nodes number)
+    → ((s w : List ℕ) (P : List ℕ → Bool) → refusal s ≡ 0 → Numbered s w number → Marks s P (replicate 1024 false) → Marks s (λ v. either (P v) (same v w)) marks) → Deployed nodes 0 marks
+deployed-of T f = let s = T .view .image in let a = T .view .shown .admitted in record { view = T .view; tells = f s deployer (λ w. false) a (T .is) (marks-none s a) }
 
 -- Limits, Denies, After are the kinds 19 to 21
 pub expressions-in : (k : ℕ) → 19 ≤ k → k ≤ 21 → has k limits-denies-after ≡ true

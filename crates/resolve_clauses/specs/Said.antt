@@ -16,6 +16,7 @@ use Rattle.rules.specs.Resolve.{rule32, rule33, clauseRule, deployerOf}
 use Rattle.records.specs.Words.{Lent, old}
 use Rattle.nodes.specs.Shown.{View, In, treeOf}
 use Rattle.nodes.specs.Marks.{Marks}
+use Rattle.names.specs.Found.{Numbered}
 use Rattle.resolve_clauses.specs.declared.Rule.{Rule}
 
 -- nodes with one table, whatever it says
@@ -28,6 +29,11 @@ pub record OneTable (nodes : List ℕ) (base : ℕ) (marks : List Bool) : Type 0
 pub record Deployed (nodes : List ℕ) (base : ℕ) (marks : List Bool) : Type 0 where
   pub view : View nodes base
   pub tells : Marks (view .image) (λ w. same w deployer) marks
+
+-- nodes of an image in which `deployer` has this number
+pub record DeployerIs (nodes : List ℕ) (number : ℕ) : Type 0 where
+  pub view : View nodes 0
+  pub is : Numbered (view .image) deployer number
 
 -- the state names, the declared assets and the known assets
 pub record AssetMarks (nodes : List ℕ) (state declared known : List Bool) : Type 0 where
@@ -83,6 +89,9 @@ told F nodes base marks T = F (T .says) (treeOf (T .view))
 
 abbrev pub deployed : (Tree → List Rec) → (nodes : Lent (List ℕ)) (base : ℕ) (marks : Lent (List Bool)) → Deployed (old nodes) base (old marks) → List Rec
 deployed F nodes base marks T = F (treeOf (T .view))
+
+abbrev pub numbered : (Tree → List Rec) → (nodes : Lent (List ℕ)) (number : ℕ) → DeployerIs (old nodes) number → List Rec
+numbered F nodes number T = F (treeOf (T .view))
 
 abbrev pub listed : (Tree → List Rec) → (nodes : Lent (List ℕ)) (state declared known : Lent (List Bool)) → AssetMarks (old nodes) (old state) (old declared) (old known) → List Rec
 listed F nodes state declared known T = F (treeOf (T .view))

@@ -4,6 +4,7 @@ use nodes::AFTER;
 use nodes::ASSIGN;
 use nodes::BURNS;
 use nodes::CONSERVES;
+use nodes::Cursor;
 use nodes::ENTRY;
 use nodes::IDENT;
 use nodes::INVARIANT;
@@ -20,16 +21,17 @@ ghost use mathlib.Core.Bool.{Bool, true, false};
 ghost use mathlib.Core.List.{List, [], _∷_};
 ghost use Prim.Native.Nat.{ℕ, _+_, _*_, _-_, _<_, _≤_, _^_};
 ghost use Rattle.rules.specs.Sweep.{run};
-ghost use Rattle.rules.specs.Tree.{tree, assign, limits-denies-after, naming};
+ghost use Rattle.rules.specs.Tree.{assign, limits-denies-after, naming};
 ghost use Rattle.rules.specs.Vocabulary.{below, signers};
 ghost use Rattle.rules.specs.Resolve.{rule33, deployerIn, group32};
 ghost use Rattle.records.specs.Words.{old, new};
 ghost use Rattle.records.specs.Records.{Adds, Asks};
-ghost use Rattle.nodes.specs.Shown.{View, In, Worded, Admitted, treeOf};
+ghost use Rattle.nodes.specs.Shown.{View, In, Worded, treeOf};
 ghost use Rattle.nodes.specs.Marks.{Marks};
+ghost use Rattle.nodes.specs.First.{Head};
 ghost use Rattle.nodes.specs.State.{State, seen};
 ghost use Rattle.nodes.specs.Span.{Span};
-ghost use Rattle.resolve_clauses.specs.Said.{OneTable, CarriesWord, Deployed, AssetMarks, told, deployed, listed, atWord, atNode, atSigner, identRules, IsEntry, clause32, item32, at33, clauseRules, clause36};
+ghost use Rattle.resolve_clauses.specs.Said.{OneTable, CarriesWord, Deployed, DeployerIs, AssetMarks, told, deployed, numbered, listed, atWord, atNode, atSigner, identRules, IsEntry, clause32, item32, at33, clauseRules, clause36};
 
 // A rule about words: kind, on, code. At a node of this kind whose word is marked, or (off) is not, it finds its code.
 pub struct Rule(pub usize, pub bool, pub u16);
@@ -107,24 +109,28 @@ fn signer(rule: Rule, nodes: &[u8], p: usize, marks: &Marks, out: &mut [u16], co
     records::emit_if(is_hit(rule, nodes, 0, s, marks), out, count, rule.2, s)
 }
 
-// The rule at the signers of an entry: 32, 35.
+// The rule at the signers of an entry, whose first statement is `to`: 32, 35.
 pub fn signers(
     rule: Rule,
     nodes: &[u8],
     entry: usize,
+    to: usize,
     marks: &Marks,
     out: &mut [u16],
     count: usize,
 ) -> usize
-    requires { ⌜ OneTable (now nodes) 0 (now marks) × In (now nodes) 0 entry × (0 < entry) × (count < 2 ^ 50) ⌝ }
+    requires { ⌜ OneTable (now nodes) 0 (now marks) × Head (now nodes) 0 entry to × (count < 2 ^ 50) ⌝ }
     ensures { λ r. ⌜ Adds (told (λ P t. signers t entry (atWord rule P t)) nodes 0 marks) 2048 out count r ⌝ }
 {
-    let end = nodes::end(nodes, 0, entry);
     let mut total = count;
-    let mut p = entry + 1;
-    while p < end {
-        total = signer(rule, nodes, p, marks, out, total);
-        p = nodes::end(nodes, 0, p);
+    let mut children = Cursor {
+        base: 0,
+        at: entry + 1,
+        end: to,
+    };
+    while children.at < children.end {
+        total = signer(rule, nodes, children.at, marks, out, total);
+        children = children.step(nodes).rest;
     }
     total
 }
@@ -140,17 +146,27 @@ fn clause32(nodes: &[u8], p: usize, deployer: &Marks, out: &mut [u16], count: us
     }
 }
 
-// 32 in the clauses of an entry that hold expressions.
-fn clauses32(nodes: &[u8], entry: usize, deployer: &Marks, out: &mut [u16], count: usize) -> usize
-    requires { ⌜ Deployed (now nodes) 0 (now deployer) × In (now nodes) 0 entry × (0 < entry) × (count < 2 ^ 45) ⌝ }
+// 32 in the clauses of an entry, whose first statement is `to`, that hold expressions.
+fn clauses32(
+    nodes: &[u8],
+    entry: usize,
+    to: usize,
+    deployer: &Marks,
+    out: &mut [u16],
+    count: usize,
+) -> usize
+    requires { ⌜ Deployed (now nodes) 0 (now deployer) × Head (now nodes) 0 entry to × (count < 2 ^ 45) ⌝ }
     ensures { λ r. ⌜ Adds (deployed (λ t. below t limits-denies-after entry (identRules t)) nodes 0 deployer) (2048 * 2048) out count r ⌝ }
 {
-    let end = nodes::end(nodes, 0, entry);
     let mut total = count;
-    let mut p = entry + 1;
-    while p < end {
-        total = clause32(nodes, p, deployer, out, total);
-        p = nodes::end(nodes, 0, p);
+    let mut children = Cursor {
+        base: 0,
+        at: entry + 1,
+        end: to,
+    };
+    while children.at < children.end {
+        total = clause32(nodes, children.at, deployer, out, total);
+        children = children.step(nodes).rest;
     }
     total
 }
@@ -160,8 +176,16 @@ fn entry32(nodes: &[u8], entry: usize, deployer: &Marks, out: &mut [u16], count:
     requires { ⌜ Deployed (now nodes) 0 (now deployer) × IsEntry (now nodes) entry × (count < 2 ^ 44) ⌝ }
     ensures { λ r. ⌜ Adds (deployed (λ t. deployerIn t entry) nodes 0 deployer) (2 ^ 23) out count r ⌝ }
 {
-    let signed = signers(Rule(NAME, true, 32), nodes, entry, deployer, out, count);
     let first = nodes::first_statement(nodes, 0, entry);
+    let signed = signers(
+        Rule(NAME, true, 32),
+        nodes,
+        entry,
+        first,
+        deployer,
+        out,
+        count,
+    );
     let body = nodes::statements(nodes, 0, entry, first);
     let end = nodes::end(nodes, 0, entry);
     let said = words(
@@ -174,7 +198,7 @@ fn entry32(nodes: &[u8], entry: usize, deployer: &Marks, out: &mut [u16], count:
         out,
         signed,
     );
-    clauses32(nodes, entry, deployer, out, said)
+    clauses32(nodes, entry, first, deployer, out, said)
 }
 
 // 32 in an item, if it is an Entry or an Invariant.
@@ -194,27 +218,31 @@ fn items32(nodes: &[u8], deployer: &Marks, out: &mut [u16], count: usize) -> usi
     requires { ⌜ Deployed (now nodes) 0 (now deployer) × In (now nodes) 0 0 × (count < 2 ^ 40) ⌝ }
     ensures { λ r. ⌜ Adds (deployed group32 nodes 0 deployer) (2 ^ 34) out count r ⌝ }
 {
-    let end = nodes::end(nodes, 0, 0);
+    let to = nodes::end(nodes, 0, 0);
     let mut total = count;
-    let mut p = 1;
-    while p < end {
-        total = item32(nodes, p, deployer, out, total);
-        p = nodes::end(nodes, 0, p);
+    let mut children = Cursor {
+        base: 0,
+        at: 1,
+        end: to,
+    };
+    while children.at < children.end {
+        total = item32(nodes, children.at, deployer, out, total);
+        children = children.step(nodes).rest;
     }
     total
 }
 
-// 32, `deployer`; nothing where no name of the image is this word.
-pub fn group32(image: &[u8], head: Image, out: &mut [u16], count: usize) -> usize
-    requires { ⌜ Admitted (now image) head × (count < 2 ^ 40) ⌝ }
-    ensures { λ r. ⌜ Adds (λ (_ : Unit {0}). group32 (tree (old image))) (2 ^ 34) out count r ⌝ }
+// 32, `deployer`, which has this number; nothing where that is 0, since then no name of the image is this word.
+pub fn group32(nodes: &[u8], number: usize, out: &mut [u16], count: usize) -> usize
+    requires { ⌜ DeployerIs (now nodes) number × In (now nodes) 0 0 × (count < 2 ^ 40) ⌝ }
+    ensures { λ r. ⌜ Adds (numbered group32 nodes number) (2 ^ 34) out count r ⌝ }
 {
-    if names::number_of(image, head, b"deployer") == 0 {
+    if number == 0 {
         return count;
     }
     let mut deployer = [false; Image::NAMES];
-    names::mark_word(image, head, b"deployer", &mut deployer);
-    items32(nodes::area(image, head), &deployer, out, count)
+    names::mark_number(number, &mut deployer);
+    items32(nodes, &deployer, out, count)
 }
 
 // 33 at a node of a Genesis: an Assign whose root, by Fields only, is no state name.
@@ -240,12 +268,17 @@ pub fn assigns(nodes: &[u8], genesis: usize, state: &Marks, out: &mut [u16], cou
     requires { ⌜ State (now nodes) 0 (now state) × In (now nodes) 0 genesis × (0 < genesis) × (count < 2 ^ 50) ⌝ }
     ensures { λ r. ⌜ Adds (seen (λ t. below t assign genesis (rule33 t)) nodes 0 state) 2048 out count r ⌝ }
 {
-    let end = nodes::end(nodes, 0, genesis);
+    let to = nodes::end(nodes, 0, genesis);
     let mut total = count;
-    let mut p = genesis + 1;
-    while p < end {
+    let mut children = Cursor {
+        base: 0,
+        at: genesis + 1,
+        end: to,
+    };
+    while children.at < children.end {
+        let p = children.at;
         total = records::emit_if(rule33(nodes, p, state), out, total, 33, p);
-        p = nodes::end(nodes, 0, p);
+        children = children.step(nodes).rest;
     }
     total
 }
@@ -272,25 +305,29 @@ fn clause(
     }
 }
 
-// 36 to 39: the clauses of an entry in order.
+// 36 to 39: the clauses of an entry, whose first statement is `to`, in order.
 pub fn clauses(
     nodes: &[u8],
     entry: usize,
+    to: usize,
     state: &Marks,
     declared: &Marks,
     known: &Marks,
     out: &mut [u16],
     count: usize,
 ) -> usize
-    requires { ⌜ AssetMarks (now nodes) (now state) (now declared) (now known) × In (now nodes) 0 entry × (0 < entry) × (count < 2 ^ 45) ⌝ }
+    requires { ⌜ AssetMarks (now nodes) (now state) (now declared) (now known) × Head (now nodes) 0 entry to × (count < 2 ^ 45) ⌝ }
     ensures { λ r. ⌜ Adds (listed (λ t. below t naming entry (clauseRules t)) nodes state declared known) (2048 * 2048) out count r ⌝ }
 {
-    let end = nodes::end(nodes, 0, entry);
     let mut total = count;
-    let mut p = entry + 1;
-    while p < end {
-        total = clause(nodes, p, state, declared, known, out, total);
-        p = nodes::end(nodes, 0, p);
+    let mut children = Cursor {
+        base: 0,
+        at: entry + 1,
+        end: to,
+    };
+    while children.at < children.end {
+        total = clause(nodes, children.at, state, declared, known, out, total);
+        children = children.step(nodes).rest;
     }
     total
 }

@@ -8,7 +8,7 @@ use native.Mathlib.Omega.{arith}
 use lib.ListN.{replicate}
 use Rattle.image.proofs.Given.{given}
 use Rattle.rules.specs.Sweep.{run, keep, has}
-use Rattle.rules.specs.All.{items}
+use Rattle.rules.specs.Standing.{all-items}
 use Rattle.rules.specs.Tree.{event, bodied, emit, statement}
 use Rattle.rules.specs.Vocabulary.{below}
 use Rattle.rules.proofs.Reflect.{tells-has}
@@ -60,7 +60,7 @@ module _ {nodes : List ℕ} {base : ℕ} {area last : List ℕ} (T : Emitted nod
 pub is-bodied : (k : ℕ) → Bodied k → (k ≡ 7) ⊎ (k ≡ 9)
 is-bodied k b = ⊎-elim inl (λ m. inr (List·Memᴰ·eq-of-singleton m)) (List·Memᴰ·cases-cons (tells-has k bodied .so b))
 
-pub is-item : (k : ℕ) → Bodied k → allIn (k ∷ []) items ≡ true
+pub is-item : (k : ℕ) → Bodied k → allIn (k ∷ []) all-items ≡ true
 unfolding allIn has
 is-item k b = ⊎-elim (λ (e : k ≡ 7). rw e refl) (λ (e : k ≡ 9). rw e refl) (is-bodied k b)
 

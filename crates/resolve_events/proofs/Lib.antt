@@ -1,3 +1,4 @@
+pub mod Absent
 pub mod Counting
 pub mod Params
 pub mod Laws

@@ -1,23 +1,27 @@
 // Emits: codes 30 and 31 of document 01.
-use image::Cursor;
 use image::Image;
-use image::Step;
+use nodes::Cursor;
 use nodes::EMIT;
 use nodes::ENTRY;
 use nodes::EVENT;
 use nodes::GENESIS;
+use nodes::Items;
 use places::Note;
 use places::Places;
 ghost use mathlib.Core.Path.{_≡_};
+ghost use mathlib.Core.Bool.{false};
 ghost use mathlib.Core.List.{[], _∷_};
 ghost use Prim.Native.Nat.{_*_, _<_, _^_};
 ghost use lib.ListN.{length};
-ghost use Rattle.rules.specs.Tree.{event-param};
+ghost use Rattle.rules.specs.Tree.{event, event-param, genesis};
 ghost use Rattle.rules.specs.Vocabulary.{alone, below, arguments};
 ghost use Rattle.rules.specs.Resolve.{rule30, rule31, emits, group30};
 ghost use Rattle.records.specs.Words.{old};
 ghost use Rattle.records.specs.Records.{Adds, Asks};
 ghost use Rattle.nodes.specs.Shown.{View, In, treeOf};
+ghost use Rattle.nodes.specs.Items.{NoItem, ItemsOf};
+ghost use Rattle.places.specs.declared.Note.the-variants.{Last};
+ghost use Rattle.places.specs.Places.{Notes, notesBelow};
 ghost use Rattle.resolve_events.specs.Emitted.{IsKind, Bodied, EventNotes, Emitted, Events, at30, item30, noted, emitted, swept30, events};
 
 // The number of arguments of an Emit: a cursor over its children after the Name, moved past one child at each step.
@@ -27,16 +31,16 @@ fn arguments(area: &[u8], emit: usize) -> usize
 {
     let end = nodes::end(area, 0, emit);
     let mut number = 0;
-    let mut children = Cursor { at: emit + 2, end };
-    loop {
-        match children.step(area) {
-            Step::Child(_, rest) => {
-                number += 1;
-                children = rest;
-            }
-            Step::End => return number,
-        }
+    let mut children = Cursor {
+        base: 0,
+        at: emit + 2,
+        end,
+    };
+    while children.at < children.end {
+        children = children.step(area).rest;
+        number += 1;
     }
+    number
 }
 
 // The number of parameters of an event: each is one node, after the Name.
@@ -101,10 +105,14 @@ fn statements(
 {
     let end = base + nodes.len() / 16;
     let mut total = count;
-    let mut p = base;
-    while p < end {
-        total = emit(nodes, base, p, area, last, out, total);
-        p = nodes::end(nodes, base, p);
+    let mut children = Cursor {
+        base,
+        at: base,
+        end,
+    };
+    while children.at < children.end {
+        total = emit(nodes, base, children.at, area, last, out, total);
+        children = children.step(nodes).rest;
     }
     total
 }
@@ -136,21 +144,47 @@ fn emits(kind: usize, nodes: &[u8], last: &Places, out: &mut [u16], count: usize
 {
     let end = nodes::end(nodes, 0, 0);
     let mut total = count;
-    let mut p = 1;
-    while p < end {
-        total = item(kind, nodes, p, last, out, total);
-        p = nodes::end(nodes, 0, p);
+    let mut children = Cursor {
+        base: 0,
+        at: 1,
+        end,
+    };
+    while children.at < children.end {
+        total = item(kind, nodes, children.at, last, out, total);
+        children = children.step(nodes).rest;
     }
     total
 }
 
+// The last event of each name is noted; nothing is where the contract has no Event.
+fn note_events(has: bool, nodes: &[u8], last: &mut Places)
+    requires { ⌜ View (now nodes) 0 × In (now nodes) 0 0 × (has ≡ false → NoItem event (now nodes)) ⌝ }
+    ensures { λ _. ⌜ Notes (λ (W : View (old nodes) 0). notesBelow Last (treeOf W) event 0) last ⌝ }
+{
+    if !has {
+        return;
+    }
+    places::note_names(Note::Last, EVENT, nodes, last);
+}
+
+// 30 and 31 in each Genesis; nothing where the contract has none.
+fn genesis_emits(has: bool, nodes: &[u8], last: &Places, out: &mut [u16], count: usize) -> usize
+    requires { ⌜ Events (now nodes) (now last) × (count < 2 ^ 45) × (has ≡ false → NoItem genesis (now nodes)) ⌝ }
+    ensures { λ r. ⌜ Adds (events (λ t. emits t genesis) nodes last) (4096 * 2048) out count r ⌝ }
+{
+    if !has {
+        return count;
+    }
+    emits(GENESIS, nodes, last, out, count)
+}
+
 // 30 and 31: the entries, then each Genesis.
-pub fn group30(nodes: &[u8], out: &mut [u16], count: usize) -> usize
-    requires { ⌜ View (now nodes) 0 × In (now nodes) 0 0 × (count < 2 ^ 40) ⌝ }
+pub fn group30(nodes: &[u8], items: Items, out: &mut [u16], count: usize) -> usize
+    requires { ⌜ View (now nodes) 0 × In (now nodes) 0 0 × (count < 2 ^ 40) × ItemsOf (now nodes) items ⌝ }
     ensures { λ r. ⌜ Adds (λ (W : View (old nodes) 0). group30 (treeOf W)) (2 * 4096 * 2048) out count r ⌝ }
 {
     let mut last = [0u16; Image::NAMES];
-    places::note_names(Note::Last, EVENT, nodes, &mut last);
+    note_events(items.event, nodes, &mut last);
     let total = emits(ENTRY, nodes, &last, out, count);
-    emits(GENESIS, nodes, &last, out, total)
+    genesis_emits(items.genesis, nodes, &last, out, total)
 }

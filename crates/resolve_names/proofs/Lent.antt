@@ -17,7 +17,7 @@ use Rattle.nodes.proofs.Steps.{statements-of, below-item}
 use Rattle.places.specs.declared.Note.the-variants.{First}
 use Rattle.places.specs.Places.{Places, Noted, notesBelow, firstOf}
 use Rattle.places.proofs.Noting.{places-none}
-use Rattle.resolve_names.specs.Seen.{Among, Params, NamingBody, NoneNoted, NameTables, parameterRules, statementNames, item24}
+use Rattle.resolve_names.specs.Seen.{Among, Params, NamingBody, NoneNoted, NameTables, Scope, parameterRules, statementNames, item24}
 
 -- a table that noted nothing notes the first of each name among the nodes of kind ks below a
 abbrev pub Firsts : List ℕ → List ℕ → ℕ → List ℕ → List ℕ → Type 0
@@ -38,18 +38,22 @@ among-in B i f = record { view = B .view; holder = B .item; after = below-item B
 abbrev pub state-of : {nodes params lets : List ℕ} {state : List Bool} {base : ℕ} → NamingBody nodes base state params lets → State nodes base state
 state-of T = record { view = T .scope .body .view; state-marks = T .state-marks }
 
--- an entry and its statements, once its parameters and its Lets are noted
+-- an entry, once its parameters are noted
 module _ {nodes params₀ lets₀ : List ℕ} {state : List Bool} (T : NameTables nodes state params₀ lets₀) where
   abbrev pub params-of : {e : ℕ} {params : List ℕ} → Firsts nodes param e params₀ params → Params nodes e state params
   params-of f = record { named = T .named; first-params = f (T .named .view) (λ w. 0) (T .clean .0) }
 
-  abbrev pub body-of : {e first : ℕ} {part params lets : List ℕ} → In nodes 0 e → 0 < e → treeOf (T .named .view) .kind e ≡ 9 → Starts (T .named .view) e first → Shown (T .named .view .image) part first (treeOf (T .named .view) .end e)
-      → Firsts nodes param e params₀ params → Firsts nodes «let» e lets₀ lets → NamingBody part first state params lets
-  body-of i z k S P f g = record {
-    scope = record { body = statements-of (T .named .view) i z (inr k) S P; first-lets = g (T .named .view) (λ w. 0) (T .clean .1) };
-    state-marks = T .named .state-marks;
-    first-params = f (T .named .view) (λ w. 0) (T .clean .0);
-  }
+  abbrev pub scope-of : {e : ℕ} {params : List ℕ} → Firsts nodes param e params₀ params → Scope nodes e state params lets₀
+  scope-of f = record { lent = params-of f; clean = T .clean .1 }
+
+-- its statements, once its Lets are noted
+abbrev pub body-in : {nodes params lets₀ : List ℕ} {state : List Bool} {e first : ℕ} {part lets : List ℕ} (T : Scope nodes e state params lets₀) → In nodes 0 e → 0 < e → treeOf (T .lent .named .view) .kind e ≡ 9 → Starts (T .lent .named .view) e first
+    → Shown (T .lent .named .view .image) part first (treeOf (T .lent .named .view) .end e) → Firsts nodes «let» e lets₀ lets → NamingBody part first state params lets
+body-in T i z k S P g = record {
+  scope = record { body = statements-of (T .lent .named .view) i z (inr k) S P; first-lets = g (T .lent .named .view) (λ w. 0) (T .clean) };
+  state-marks = T .lent .named .state-marks;
+  first-params = T .lent .first-params;
+}
 
 -- tables that note nothing; fresh ones do
 abbrev pub cleaned : {nodes params lets : List ℕ} {state : List Bool} (T : State nodes 0 state) → NoneNoted T params lets → NameTables nodes state params lets

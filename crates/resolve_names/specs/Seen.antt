@@ -1,6 +1,7 @@
 -- What the rules of names are lent: nodes, and tables by name number; what each table says.
 use Prim.Native.Nat.{ℕ, _+_, _-_, _<_}
-use mathlib.Core.Bool.{Bool}
+use mathlib.Core.Path.{_≡_}
+use mathlib.Core.Bool.{Bool, false}
 use mathlib.Core.List.{List, [], _∷_, _++_}
 use lib.Dec.{ltb}
 use Rattle.rules.specs.Sweep.{run, keep, has}
@@ -105,3 +106,19 @@ swept26 nodes base state params lets T =
 -- nothing is noted afterwards
 abbrev pub CleansNoted : (nodes : Lent (List ℕ)) (state : Lent (List Bool)) (params lets : Lent (List ℕ)) → Type 0
 CleansNoted nodes state params lets = (T : NameTables (old nodes) (old state) (old params) (old lets)) → NoneNoted (T .named) (new params) (new lets)
+
+-- no Let stands in the entry
+abbrev pub NoLet : Tree → ℕ → Type 0
+NoLet t e = (j : ℕ) → e < j → j < t .end e → has (t .kind j) «let» ≡ false
+
+-- an entry with the state names and its parameters, and a table that notes nothing
+pub record Scope (nodes : List ℕ) (entry : ℕ) (state : List Bool) (params lets : List ℕ) : Type 0 where
+  pub lent : Params nodes entry state params
+  pub clean : Places (lent .named .view .image) (λ w. 0) lets
+
+-- 26 to 29 in it; the table notes nothing afterwards
+abbrev pub scoped : (entry : ℕ) (nodes : Lent (List ℕ)) (state : Lent (List Bool)) (params lets : Lent (List ℕ)) → Scope (old nodes) entry (old state) (old params) (old lets) → List Rec
+scoped entry nodes state params lets T = let t = treeOf (T .lent .named .view) in below t statement entry (statementNames t entry)
+
+abbrev pub CleansLets : (nodes : Lent (List ℕ)) (entry : ℕ) (state : Lent (List Bool)) (params lets : Lent (List ℕ)) → Type 0
+CleansLets nodes entry state params lets = (T : Scope (old nodes) entry (old state) (old params) (old lets)) → Places (T .lent .named .view .image) (λ w. 0) (new lets)

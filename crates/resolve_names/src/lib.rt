@@ -1,5 +1,6 @@
 // The names of fields, events, parameters and Lets: codes 20, 21 and 24 to 29 of document 01.
 use image::Image;
+use nodes::Cursor;
 use nodes::ENTRY;
 use nodes::EVENT;
 use nodes::FIELD_DECL;
@@ -10,16 +11,20 @@ use nodes::PARAM;
 use places::Note;
 use places::Places;
 use records::Hit;
+ghost use mathlib.Core.Path.{_≡_};
+ghost use mathlib.Core.Bool.{false};
 ghost use mathlib.Core.List.{[], _∷_};
 ghost use Prim.Native.Nat.{ℕ, _+_, _*_, _<_, _≤_, _^_};
+ghost use Rattle.rules.specs.Tree.{event};
 ghost use Rattle.rules.specs.Vocabulary.{below};
 ghost use Rattle.rules.specs.Resolve.{group20, group21, group24};
 ghost use Rattle.records.specs.Words.{old};
 ghost use Rattle.records.specs.Records.{Adds, Asks, AsksAt};
 ghost use Rattle.nodes.specs.Shown.{View, In, treeOf};
-ghost use Rattle.nodes.specs.First.{NameFirst, Declaring};
+ghost use Rattle.nodes.specs.First.{NameFirst, Declaring, Head};
 ghost use Rattle.nodes.specs.State.{State, seen};
-ghost use Rattle.resolve_names.specs.Seen.{Among, Params, Lets, NamingBody, NameTables, metRule, atMet, atState, at26, at27, at29, parameterRules, idents26, item24, seenNames, seenAmong, seenLets, seenBody, swept26, CleansNoted};
+ghost use Rattle.nodes.specs.Items.{NoItem};
+ghost use Rattle.resolve_names.specs.Seen.{Among, Params, Lets, NamingBody, NameTables, metRule, atMet, atState, at26, at27, at29, parameterRules, idents26, item24, seenNames, seenAmong, seenLets, seenBody, swept26, CleansNoted, NoLet, Scope, scoped, CleansLets};
 
 // 20, 21, 25 and 27 at a node, if it is of this kind: its name is met before. Related: the first of that name, or with `name` 1 its Name.
 fn met(kind: usize, nodes: &[u8], base: usize, p: usize, firsts: &Places, name: usize) -> Hit
@@ -61,11 +66,14 @@ pub fn group20(nodes: &[u8], out: &mut [u16], count: usize) -> usize
     repeated(FIELD_DECL, 20, nodes, out, count)
 }
 
-// 21: event name met before.
-pub fn group21(nodes: &[u8], out: &mut [u16], count: usize) -> usize
-    requires { ⌜ View (now nodes) 0 × In (now nodes) 0 0 × (count < 2 ^ 50) ⌝ }
+// 21: event name met before; nothing where the contract has no Event.
+pub fn group21(has: bool, nodes: &[u8], out: &mut [u16], count: usize) -> usize
+    requires { ⌜ View (now nodes) 0 × In (now nodes) 0 0 × (count < 2 ^ 50) × (has ≡ false → NoItem event (now nodes)) ⌝ }
     ensures { λ r. ⌜ Adds (λ (W : View (old nodes) 0). group21 (treeOf W)) 2048 out count r ⌝ }
 {
+    if !has {
+        return count;
+    }
     repeated(EVENT, 21, nodes, out, count)
 }
 
@@ -80,25 +88,30 @@ fn is_state(kind: usize, nodes: &[u8], base: usize, p: usize, state: &Marks) -> 
     nodes::is_marked(state, nodes, base, p + 1)
 }
 
-// 24 and 25: the parameters of an entry in order.
+// 24 and 25: the parameters of an entry, whose first statement is `to`, in order.
 fn parameters(
     nodes: &[u8],
     entry: usize,
+    to: usize,
     state: &Marks,
     params: &Places,
     out: &mut [u16],
     count: usize,
 ) -> usize
-    requires { ⌜ Params (now nodes) entry (now state) (now params) × In (now nodes) 0 entry × (0 < entry) × (count < 2 ^ 50) ⌝ }
+    requires { ⌜ Params (now nodes) entry (now state) (now params) × Head (now nodes) 0 entry to × (count < 2 ^ 50) ⌝ }
     ensures { λ r. ⌜ Adds (λ (T : Params (old nodes) entry (old state) (old params)). parameterRules (treeOf (T .named .view)) entry) (2 * 2048) out count r ⌝ }
 {
-    let end = nodes::end(nodes, 0, entry);
     let mut total = count;
-    let mut p = entry + 1;
-    while p < end {
+    let mut children = Cursor {
+        base: 0,
+        at: entry + 1,
+        end: to,
+    };
+    while children.at < children.end {
+        let p = children.at;
         total = records::emit_if(is_state(PARAM, nodes, 0, p, state), out, total, 24, p + 1);
         total = records::emit_hit(met(PARAM, nodes, 0, p, params, 1), out, total, 25, p + 1);
-        p = nodes::end(nodes, 0, p);
+        children = children.step(nodes).rest;
     }
     total
 }
@@ -181,16 +194,66 @@ fn statements(
 {
     let end = base + nodes.len() / 16;
     let mut total = count;
-    let mut s = base;
-    while s < end {
+    let mut children = Cursor {
+        base,
+        at: base,
+        end,
+    };
+    while children.at < children.end {
+        let s = children.at;
         total = idents(nodes, base, s, lets, out, total);
         total = let_names(nodes, base, s, state, params, lets, out, total);
-        s = nodes::end(nodes, base, s);
+        children = children.step(nodes).rest;
     }
     total
 }
 
-// 24 to 29 in an item, if it is an Entry. The first parameter and the first Let of each name are noted, and taken off again.
+// Whether an entry, whose first statement is `first`, has a Let.
+fn has_let(nodes: &[u8], entry: usize, first: usize) -> bool
+    requires { ⌜ Head (now nodes) 0 entry first ⌝ }
+    ensures { λ r. ⌜ (r ≡ false → (W : View (old nodes) 0) → NoLet (treeOf W) entry) ⌝ }
+{
+    let end = nodes::end(nodes, 0, entry);
+    let mut children = Cursor {
+        base: 0,
+        at: first,
+        end,
+    };
+    while children.at < children.end {
+        if nodes::kind(nodes, 0, children.at) == LET {
+            return true;
+        }
+        children = children.step(nodes).rest;
+    }
+    false
+}
+
+// 26 to 29 in an entry, whose first statement is `first`; nothing where it has no Let. The first Let of each name is noted, and taken off again.
+fn let_rules(
+    nodes: &[u8],
+    entry: usize,
+    first: usize,
+    state: &Marks,
+    params: &Places,
+    lets: &mut Places,
+    out: &mut [u16],
+    count: usize,
+) -> usize
+    requires { ⌜ Scope (now nodes) entry (now state) (now params) (now lets) × Head (now nodes) 0 entry first × (count < 2 ^ 48) ⌝ }
+    ensures { λ r. ⌜ Adds (scoped entry nodes state params lets) (2051 * 2048) out count r ⌝ }
+    ensures { λ _. ⌜ CleansLets nodes entry state params lets ⌝ }
+{
+    if !has_let(nodes, entry, first) {
+        return count;
+    }
+    places::note_parts(Note::First, LET, nodes, entry, lets);
+    let body = nodes::statements(nodes, 0, entry, first);
+    let total = statements(body, first, state, params, lets, out, count);
+    places::note_parts(Note::Off, LET, nodes, entry, lets);
+    total
+}
+
+// 24 to 29 in an item, if it is an Entry. The first parameter of each name is noted, and taken off again.
 fn entry(
     nodes: &[u8],
     item: usize,
@@ -209,12 +272,9 @@ fn entry(
     }
     let first = nodes::first_statement(nodes, 0, item);
     places::note_heads(Note::First, PARAM, nodes, item, first, params);
-    places::note_parts(Note::First, LET, nodes, item, lets);
-    let named = parameters(nodes, item, state, params, out, count);
-    let body = nodes::statements(nodes, 0, item, first);
-    let total = statements(body, first, state, params, lets, out, named);
+    let named = parameters(nodes, item, first, state, params, out, count);
+    let total = let_rules(nodes, item, first, state, params, lets, out, named);
     places::note_heads(Note::Off, PARAM, nodes, item, first, params);
-    places::note_parts(Note::Off, LET, nodes, item, lets);
     total
 }
 
@@ -227,10 +287,22 @@ pub fn group24(nodes: &[u8], state: &Marks, out: &mut [u16], count: usize) -> us
     let mut lets = [0u16; Image::NAMES];
     let end = nodes::end(nodes, 0, 0);
     let mut total = count;
-    let mut p = 1;
-    while p < end {
-        total = entry(nodes, p, state, &mut params, &mut lets, out, total);
-        p = nodes::end(nodes, 0, p);
+    let mut children = Cursor {
+        base: 0,
+        at: 1,
+        end,
+    };
+    while children.at < children.end {
+        total = entry(
+            nodes,
+            children.at,
+            state,
+            &mut params,
+            &mut lets,
+            out,
+            total,
+        );
+        children = children.step(nodes).rest;
     }
     total
 }

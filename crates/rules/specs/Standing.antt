@@ -2,7 +2,7 @@
 -- stand, on which the order rests: ranges nest, and the kinds stand as document 01's table of children has them. Proved of the tree of
 -- every admitted image in proofs/Admitted.
 use Prim.Native.Nat.{ℕ, _+_, _<_, _≤_}
-use mathlib.Core.List.{List, _∷_}
+use mathlib.Core.List.{List, [], _∷_}
 use Rattle.rules.specs.Tree.{Tree, entry, param, statement}
 use Rattle.rules.specs.Vocabulary.{Below}
 use Rattle.rules.specs.All.{items}
@@ -10,6 +10,10 @@ use Rattle.rules.specs.All.{items}
 -- nodes of these kinds do not hold each other
 abbrev pub Flat : Tree → List ℕ → Type 0
 Flat t ks = (i j : ℕ) → Below t ks (t .root) i → Below t ks i j → ⊥
+
+-- the items of a contract: Asset, State, Event, Genesis, Invariant, Entry
+abbrev pub all-items : List ℕ
+all-items = 2 ∷ 3 ∷ 5 ∷ 7 ∷ 8 ∷ 9 ∷ []
 
 -- Invariants, parameters, clauses, statements
 abbrev pub parts : List ℕ

@@ -2,6 +2,7 @@
 // overloads.rt has code 23 itself, which writes no text: `same-text-same-nodes` in proofs/Same.antt says that comparing the texts is comparing the nodes.
 mod overloads;
 
+use nodes::Cursor;
 use nodes::TYPE;
 pub use overloads::group23;
 ghost use mathlib.Core.Path.{_≡_};
@@ -173,11 +174,16 @@ fn write_args(
 {
     let to = nodes::end(nodes, base, y);
     let mut o = at;
-    let mut c = y + 2;
-    while c < to {
-        o = put_comma(y + 2, c, out, o);
-        o = write_type(nodes, base, names, text, c, levels, out, o);
-        c = nodes::end(nodes, base, c);
+    let mut children = Cursor {
+        base,
+        at: y + 2,
+        end: to,
+    };
+    while children.at < children.end {
+        let step = children.step(nodes);
+        o = put_comma(y + 2, step.child, out, o);
+        o = write_type(nodes, base, names, text, step.child, levels, out, o);
+        children = step.rest;
     }
     o
 }
@@ -197,14 +203,19 @@ fn write_params(
 {
     let to = nodes::end(nodes, base, e);
     let mut o = at;
-    let mut p = e + 2;
-    while p < to {
+    let mut children = Cursor {
+        base,
+        at: e + 2,
+        end: to,
+    };
+    while children.at < children.end {
+        let p = children.at;
         if nodes::kind(nodes, base, p) != 10 {
             return o;
         }
         o = put_comma(e + 2, p, out, o);
         o = write_type(nodes, base, names, text, p + 2, 64, out, o);
-        p = nodes::end(nodes, base, p);
+        children = children.step(nodes).rest;
     }
     o
 }

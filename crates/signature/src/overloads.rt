@@ -2,6 +2,7 @@
 // Where no two entries have one name there is nothing to compare. Else an entry is compared with those before it that share its key,
 // a number made of its name and its types, and only the first entry of each signature is kept to be compared with.
 use image::Image;
+use nodes::Cursor;
 use nodes::ENTRY;
 use nodes::Marks;
 use nodes::PARAM;
@@ -82,9 +83,19 @@ fn same_signature(nodes: &[u8], g: usize, e: usize) -> bool
     }
     let to_g = nodes::end(nodes, 0, g);
     let to_e = nodes::end(nodes, 0, e);
-    let mut p = g + 2;
-    let mut q = e + 2;
+    let mut ours = Cursor {
+        base: 0,
+        at: g + 2,
+        end: to_g,
+    };
+    let mut theirs = Cursor {
+        base: 0,
+        at: e + 2,
+        end: to_e,
+    };
     loop {
+        let p = ours.at;
+        let q = theirs.at;
         if !is_param(nodes, p, to_g) {
             return !is_param(nodes, q, to_e);
         }
@@ -94,8 +105,8 @@ fn same_signature(nodes: &[u8], g: usize, e: usize) -> bool
         if !same_type(nodes, p + 2, q + 2) {
             return false;
         }
-        p = nodes::end(nodes, 0, p);
-        q = nodes::end(nodes, 0, q);
+        ours = ours.step(nodes).rest;
+        theirs = theirs.step(nodes).rest;
     }
 }
 
@@ -144,15 +155,20 @@ fn entry_key(nodes: &[u8], e: usize) -> usize
     requires { ⌜ EntryAt (now nodes) e ⌝ }
     ensures { λ r. ⌜ ((W : View (old nodes) 0) → r ≡ keyOf (W .image) e) ⌝ }
 {
-    let end = nodes::end(nodes, 0, e);
+    let to = nodes::end(nodes, 0, e);
     let mut key = nodes::name(nodes, 0, e + 1);
-    let mut p = e + 2;
-    while p < end {
+    let mut children = Cursor {
+        base: 0,
+        at: e + 2,
+        end: to,
+    };
+    while children.at < children.end {
+        let p = children.at;
         if nodes::kind(nodes, 0, p) != PARAM {
             return key;
         }
         key = type_key(nodes, key, p + 2);
-        p = nodes::end(nodes, 0, p);
+        children = children.step(nodes).rest;
     }
     key
 }
@@ -250,12 +266,16 @@ fn entries(
     requires { ⌜ Chained (now nodes) 1 (now heads) (now links) (now keys) × In (now nodes) 0 0 × (count < 2 ^ 40) ⌝ }
     ensures { λ r. ⌜ Adds (chained group23 nodes 1 heads links keys) 2048 out count r ⌝ }
 {
-    let end = nodes::end(nodes, 0, 0);
+    let to = nodes::end(nodes, 0, 0);
     let mut total = count;
-    let mut p = 1;
-    while p < end {
-        total = entry(nodes, p, heads, links, keys, out, total);
-        p = nodes::end(nodes, 0, p);
+    let mut children = Cursor {
+        base: 0,
+        at: 1,
+        end: to,
+    };
+    while children.at < children.end {
+        total = entry(nodes, children.at, heads, links, keys, out, total);
+        children = children.step(nodes).rest;
     }
     total
 }
@@ -291,13 +311,17 @@ fn repeats(nodes: &[u8], seen: &mut Marks) -> bool
     requires { ⌜ Seen (now nodes) 1 (now seen) × In (now nodes) 0 0 ⌝ }
     ensures { λ r. ⌜ ((S : Seen (old nodes) 1 (old seen)) → r ≡ false → group23 (treeOf (S .view)) ≡ []) ⌝ }
 {
-    let end = nodes::end(nodes, 0, 0);
-    let mut p = 1;
-    while p < end {
-        if meets(nodes, p, seen) {
+    let to = nodes::end(nodes, 0, 0);
+    let mut children = Cursor {
+        base: 0,
+        at: 1,
+        end: to,
+    };
+    while children.at < children.end {
+        if meets(nodes, children.at, seen) {
             return true;
         }
-        p = nodes::end(nodes, 0, p);
+        children = children.step(nodes).rest;
     }
     false
 }

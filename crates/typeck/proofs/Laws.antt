@@ -162,10 +162,10 @@ module _ (s o : List ℕ) where
         let f = eq-eqb (refusal s) 0 e in
         (stands-records k (rw f (ap rules.listHas c)), rw f (L .words))
 
--- what each pass lists is what `list_of` promises
-pub listed-by : {p q : Pass} (s : List ℕ) (most : ℕ) {o o′ : List ℕ} {k : ℕ} → p ≡ q → most ≤ 2 ^ 38
-    → Added (λ (_ : Unit {0}). recordsOf q (tree s)) most o 0 o′ k → Added (λ (_ : Unit {0}). recordsOf p (tree s)) (2 ^ 38) o 0 o′ k
-listed-by s most e h a = record { laid = λ x. rw e (a .laid x); few = let f = a .few in omega arith }
+-- what each pass lists is what `list_with` promises
+pub listed-by : {X : Type 0} (t : X → Tree) {p q : Pass} (most : ℕ) {o o′ : List ℕ} {k : ℕ} → p ≡ q → most ≤ 2 ^ 38
+    → Added (λ x. recordsOf q (t x)) most o 0 o′ k → Added (λ x. recordsOf p (t x)) (2 ^ 38) o 0 o′ k
+listed-by t most e h a = record { laid = λ x. rw e (a .laid x); few = let f = a .few in omega arith }
 
 -- how many records the three passes have
 pub offences-many : (t : Tree) → length (offences t) ≡ length (resolve t) + length (access t) + length (linear t)

@@ -2,6 +2,8 @@
 use image::Admission;
 use image::Image;
 use model::Question;
+use names::Words;
+use nodes::Marks;
 ghost use mathlib.Core.Path.{_≡_};
 ghost use mathlib.Core.List.{List};
 ghost use Prim.Native.Nat.{_+_, _*_, _≤_, _^_};
@@ -17,7 +19,9 @@ ghost use Rattle.rules.specs.All.{offences};
 ghost use Rattle.records.specs.Words.{old, new};
 ghost use Rattle.records.specs.Records.{Laid, Adds};
 ghost use Rattle.nodes.specs.Shown.{Admitted};
+ghost use Rattle.names.specs.Spelled.{Looked, looked};
 ghost use Rattle.model.specs.Questions.{questionOf};
+ghost use Rattle.typeck.specs.Lookups.{LookedUp};
 ghost use Rattle.typeck.specs.Face.{Judged, Replied, ListedAll, ListedPart, recordsOf, verdictBy, yesNo};
 
 // What a pass answers: the image's refusal, acceptance, or the code, the place and its two span words.
@@ -62,16 +66,28 @@ enum Pass {
     Linear,
 }
 
-// The records of a pass, from the buffer's start: what fits is written, all is counted.
+// The records of a pass, from the buffer's start: what fits is written, all is counted. Words and state names were looked up before.
+fn list_with(pass: Pass, nodes: &[u8], words: Words, state: &Marks, out: &mut [u16]) -> usize
+    requires { ⌜ Looked (now nodes) words (now state) ⌝ }
+    ensures { λ r. ⌜ Adds (looked (recordsOf pass) nodes words state) (2 ^ 38) out 0 r ⌝ }
+{
+    match pass {
+        Pass::Resolve => resolve::list(nodes, words, state, out),
+        Pass::Access => access::list(nodes, words, state, out),
+        Pass::Linear => linear::list(nodes, words, out),
+    }
+}
+
+// The same for an admitted image, with look-ups of its own.
 fn list_of(pass: Pass, image: &[u8], head: Image, out: &mut [u16]) -> usize
     requires { ⌜ Admitted (now image) head ⌝ }
     ensures { λ r. ⌜ Adds (λ (_ : Unit {0}). recordsOf pass (tree (old image))) (2 ^ 38) out 0 r ⌝ }
 {
-    match pass {
-        Pass::Resolve => resolve::list(image, head, out),
-        Pass::Access => access::list(image, head, out),
-        Pass::Linear => linear::list(image, head, out),
-    }
+    let nodes = nodes::area(image, head);
+    let words = names::find_words(image, head);
+    let mut state = [false; Image::NAMES];
+    model::mark_state(nodes, &mut state);
+    list_with(pass, nodes, words, &state, out)
 }
 
 fn wide(w: u16) -> usize
@@ -99,6 +115,23 @@ fn judge(image: &[u8], head: Image, out: &[u16], count: usize) -> Verdict
         from: from as u32,
         to: to as u32,
     }
+}
+
+// The verdict of a pass on an admitted image, whose words and state names were looked up before.
+fn first_with(
+    pass: Pass,
+    image: &[u8],
+    head: Image,
+    nodes: &[u8],
+    words: Words,
+    state: &Marks,
+) -> Verdict
+    requires { ⌜ LookedUp (now image) head (now nodes) words (now state) ⌝ }
+    ensures { λ r. ⌜ Judged (recordsOf pass) (old image) r ⌝ }
+{
+    let mut out = [0u16; 3];
+    let count = list_with(pass, nodes, words, state, &mut out);
+    judge(image, head, &out, count)
 }
 
 // The verdict of a pass on an admitted image.
@@ -148,6 +181,25 @@ pub struct Answers {
     pub linear: Verdict,
 }
 
+// All verdicts on an admitted image, with words and state names looked up once.
+fn answer_all(image: &[u8], head: Image) -> Answers
+    requires { ⌜ Admitted (now image) head ⌝ }
+    ensures { λ r. ⌜ Judged resolve (old image) (r .resolve) × Judged access (old image) (r .access) × Judged linear (old image) (r .linear) ⌝ }
+{
+    let nodes = nodes::area(image, head);
+    let words = names::find_words(image, head);
+    let mut state = [false; Image::NAMES];
+    model::mark_state(nodes, &mut state);
+    let resolve = first_with(Pass::Resolve, image, head, nodes, words, &state);
+    let access = first_with(Pass::Access, image, head, nodes, words, &state);
+    let linear = first_with(Pass::Linear, image, head, nodes, words, &state);
+    Answers {
+        resolve,
+        access,
+        linear,
+    }
+}
+
 // All verdicts, with one admission.
 pub fn verdicts(image: &[u8]) -> Answers
     ensures { λ r. ⌜ Judged resolve (old image) (r .resolve) × Judged access (old image) (r .access) × Judged linear (old image) (r .linear) ⌝ }
@@ -158,16 +210,7 @@ pub fn verdicts(image: &[u8]) -> Answers
             access: Verdict::Image(r),
             linear: Verdict::Image(r),
         },
-        Admission::Admitted(head) => {
-            let resolve = first_of(Pass::Resolve, image, head);
-            let access = first_of(Pass::Access, image, head);
-            let linear = first_of(Pass::Linear, image, head);
-            Answers {
-                resolve,
-                access,
-                linear,
-            }
-        }
+        Admission::Admitted(head) => answer_all(image, head),
     }
 }
 

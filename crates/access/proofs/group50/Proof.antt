@@ -7,6 +7,7 @@ use Rattle.rules.specs.Sweep.{has}
 use Rattle.records.proofs.Sweep.{sweep-long}
 use Rattle.nodes.specs.Shown.{treeOf}
 use Rattle.nodes.proofs.Shapes.{allIn}
+use Rattle.nodes.proofs.Cursors.{Over, before-last, past-last, still-over, on-to}
 use Rattle.nodes.proofs.Steps.{Walk, items-on, below-starts, below-moves, below-done}
 use Rattle.rules.specs.Tree.{ident, invariant}
 use Rattle.rules.specs.Vocabulary.{below}
@@ -16,22 +17,24 @@ use Rattle.access.proofs.group50.Statement.{statement}
 use Rattle.access.proofs.group50.Tie as tie
 
 abbrev Inv-loop : tie.InvT-loop
-Inv-loop nodes state out₀ count end total₀ p₀ out total p = Walk (λ (T : State nodes 0 state). T .view) invariant (λ T v. below (treeOf (T .view)) ident v (rule50 (treeOf (T .view)))) 1 end 2048 out₀ count out total p
+Inv-loop nodes state out₀ count to total₀ children₀ out total children = Over 0 to children × Walk (λ (T : State nodes 0 state). T .view) invariant (λ T v. below (treeOf (T .view)) ident v (rule50 (treeOf (T .view)))) 1 to 2048 out₀ count out total (children .at)
 
 abbrev μ-loop : tie.MeasureT-loop
-μ-loop nodes state out₀ count end total₀ p₀ out total p = end - p
+μ-loop nodes state out₀ count to total₀ children₀ out total children = to - children .at
+
+loop-holds : tie.Need-loop-holds Inv-loop μ-loop
+loop-holds c = (record { part = refl; last = refl }, below-starts 0 (c .before .before .before .pre .0) (c .before .before .before .pre .1) (c .end .ensures))
+
+loop-less : tie.Need-loop-less Inv-loop μ-loop
+loop-less c = let P = c .before .before .before .before .before .before .before .before .before .before .before .before .pre in let i = c .before .before .before .before .before .before .before .before .loop .inv in let m = below-moves 0 (P .0) (P .1) (c .before .before .before .before .before .before .before .before .before .end .ensures) (i .1) (before-last (i .0) (c .before .before .before .before .before .before .if1 .taken)) (on-to (i .0) (c .before .step .ensures)) in omega arith
 
 loop-again : tie.Need-loop-again Inv-loop μ-loop
 unfolding allIn has
-loop-again c = let P = c .before .before .before .before .before .before .before .before .before .before .pre in items-on refl (P .0) (P .1) (c .before .before .before .before .before .before .before .end .ensures) (c .before .before .before .before .before .before .loop .inv) (c .before .before .before .before .before .loop-test .taken) (c .end2 .ensures) (c .before .before .before .invariant .ensures)
+loop-again c = let P = c .before .before .before .before .before .before .before .before .before .before .before .before .pre in let i = c .before .before .before .before .before .before .before .before .loop .inv in (still-over (i .0) (c .before .step .ensures), items-on refl (P .0) (P .1) (c .before .before .before .before .before .before .before .before .before .end .ensures) (i .1) (before-last (i .0) (c .before .before .before .before .before .before .if1 .taken)) (on-to (i .0) (c .before .step .ensures)) (c .before .before .before .before .invariant .ensures))
 
 returns : tie.Need-returns Inv-loop μ-loop
 unfolding group50
-returns c = below-done 0 (c .before .loop .inv) (c .loop-test .left) (c .before .before .end .ensures)
+returns c = let i = c .before .before .loop .inv in below-done 0 (i .1) (past-last (i .0) (c .if1 .left)) (c .before .before .before .end .ensures)
 
 pub group50-spec : {M : Type 1} → statement M
-group50-spec =
-    tie.close
-    (tie.spec Inv-loop μ-loop (λ c κs. search needs) (λ c. below-starts 0 (c .before .before .before .pre .0) (c .before .before .before .pre .1) (c .end .ensures)) (λ c κs. search needs) (λ c κs. search needs)
-    (λ c. let P = c .before .before .before .before .before .before .before .before .before .before .pre in let m = below-moves 0 (P .0) (P .1) (c .before .before .before .before .before .before .before .end .ensures) (c .before .before .before .before .before .before .loop .inv) (c .before .before .before .before .before .loop-test .taken) (c .end2 .ensures) in omega arith)
-    loop-again (λ c. sweep-long (c .before .loop .inv .sweep) (c .before .before .before .before .before .pre .0)) returns)
+group50-spec = tie.close (tie.spec Inv-loop μ-loop (λ c κs. search needs) loop-holds (λ c κs. search needs) (λ c κs. search needs) loop-less loop-again (λ c. sweep-long (c .before .before .loop .inv .1 .sweep) (c .before .before .before .before .before .before .pre .0)) returns)

@@ -1,14 +1,17 @@
--- `entry` meets its contract: its rows are tracked, the 60s laid, marks and uses counted, each row judged, and the tables cleaned.
+-- `entry` meets its contract: its rows are tracked and the 60s laid, marks and uses counted, each row judged, and the tables cleaned.
 use borrow.Author.Needs.{needs}
 use native.Mathlib.Omega.{arith}
-use mathlib.Core.Path.{refl, sym, _∙_}
+use mathlib.Core.Path.{_≡_, refl, sym, _∙_}
 use Rattle.records.proofs.Laws.{added-nothing, added-by, added-as, added-join}
 use Rattle.records.proofs.Sweep.{keep-none, has-not}
+use Rattle.nodes.specs.Shown.{treeOf}
 use Rattle.nodes.proofs.Parts.{past}
 use Rattle.places.specs.declared.Note.the-variants.{First, Last}
+use Rattle.linear.specs.Seen.{LinearTables}
+use Rattle.linear_tracked.specs.Rows.{Unrowed}
 use Rattle.linear.proofs.Judged.{blanked}
 use Rattle.linear.proofs.Fresh.{clear-later}
-use Rattle.linear.proofs.Between.{start-rows, placed-of, rowed-of, filled-of, item-is}
+use Rattle.linear.proofs.Between.{unrowed-of, placed-of, filled-of, item-is}
 use Rattle.linear.proofs.entry.Statement.{statement}
 use Rattle.linear.proofs.entry.Tie as tie
 
@@ -18,42 +21,50 @@ returns c = (
   λ T. let h = past (T .known .view) (c .before .before .before .before .pre .1) .0 in (T .clean, clear-later (omega arith) (c .before .before .before .before .pre .3)),
 )
 
+-- what is lent, when the item is an Entry
+abbrev Tables : tie.Else1 → Type 0
+Tables c = let g = c .before .before .before .before .args in LinearTables (g .nodes .now) (g .words) (g .reader .now) (g .burned .now) (g .places .now) (g .first .now) (g .last .now) (g .tallies .now)
+
+is-entry : (c : tie.Else1) (T : Tables c) → treeOf (T .known .view) .kind (c .before .before .before .before .args .item) ≡ 9
+is-entry c T = sym (c .before .kind .ensures (T .known .view)) ∙ c .if1 .left
+
+abbrev unrowed : (c : tie.Else1) (T : Tables c) → Unrowed (c .before .before .before .before .args .nodes .now) (c .before .before .before .before .args .words) (c .before .before .before .before .args .item) (c .before .before .before .before .args .places .now) (c .before .before .before .before .args .first .now) (c .before .before .before .before .args .last .now)
+unrowed c T = unrowed-of T (is-entry c T) (c .before .before .before .before .pre .1) (c .before .before .before .before .pre .2)
+
+track-requires : tie.Need-track-requires
+track-requires c κs = let d = (c .before .before .before .before) in (unrowed d (d .before .before .before .before .pre .0), search needs)
+
 tally-requires : tie.Need-tally-requires
-tally-requires c κs =
-    let d = (c .before .before .before .before .before .before .before .before .before .before .before) in let b = d .before .before .before .before .before .before .before .before .pre in let T = b .0 in
-    let k = sym (d .before .before .before .before .before .kind .ensures (T .known .view)) ∙ d .before .before .before .before .if1 .left in
-    (filled-of T k (d .track .ensures .1 (T .known) _ (start-rows T)), b .1, b .2, b .3)
+tally-requires c κs = let d = (c .before .before .before .before .before .before .before .before .before .before .before .before) in let b = d .before .before .before .before .pre in (filled-of (b .0) (is-entry d (b .0)) (c .before .before .before .before .before .before .before .track .ensures .0 .1 (unrowed d (b .0)) .1), b .1, b .2, b .3)
+
+judge-requires : tie.Need-judge-requires
+judge-requires c κs = let d = (c .before .before .before .before .before .before .before .before .before .before .before .before .before .before .before .before) in let l = d .before .before .before .before .pre .4 in let f = c .before .before .before .before .before .before .before .before .before .before .before .track .ensures .1 .few in (c .before .before .before .before .before .before .before .before .before .before .before .track .ensures .0 .0, omega arith)
+
+untrack-requires : tie.Need-untrack-requires
+untrack-requires c κs = let d = (c .before .before .before .before .before .before .before .before .before .before .before .before .before .before .before .before .before .before .before .before .before) in let b = d .before .before .before .before .pre in placed-of (b .0) (b .1) (c .before .before .before .before .before .before .before .before .before .before .before .before .before .before .before .before .track .ensures .0 .1 (unrowed d (b .0)) .1)
+
+untrack-requires-2 : tie.Need-untrack-requires-2
+untrack-requires-2 c κs = let d = (c .before .before .before .before .before .before .before .before .before .before .before .before .before .before .before .before .before .before .before .before .before .before .before .before) in let b = d .before .before .before .before .pre in placed-of (b .0) (b .1) (c .before .before .before .before .before .before .before .before .before .before .before .before .before .before .before .before .before .before .before .track .ensures .0 .1 (unrowed d (b .0)) .1)
 
 returns-2 : tie.Need-returns-2
 returns-2 c =
-    let d = (c .before .before .before .before .before .before .before .before .before .before .before .before .before .before .before .before .before .before .before .before .before .before .before .before) in let b = d .before .before .before .before .before .before .before .before .pre in
-    let k = d .before .before .before .before .before .kind .ensures in let z = d .before .before .before .before .if1 .left in let r = d .track .ensures .1 in
-    let y = c .before .before .before .before .before .before .before .before .before .before .before .before .tally .ensures in let j = c .before .before .before .before .before .before .before .before .judge .ensures in (
-      added-as (λ T. let R = r (T .known) _ (start-rows T) in let h = sym (k (T .known .view)) ∙ z in item-is (T .known .view .image) (d .before .before .before .before .before .before .before .before .args .item) h R (y (filled-of T h R) .2))
-          (added-join
-          (added-by (λ T. rowed-of T (sym (k (T .known .view)) ∙ z) (r (T .known) _ (start-rows T)) (b .1) (b .2)) (λ T. refl) (c .before .before .before .before .before .before .before .before .before .before .before .before .before .before .before .before .before .before .before .before .aliases .ensures))
-          (added-by (λ T. tt) (λ T. refl) (j .0))),
+    let d = (c .before .before .before .before .before .before .before .before .before .before .before .before .before .before .before .before .before .before .before .before .before .before .before .before .before) in let b = d .before .before .before .before .pre in let e = d .before .before .before .before .args .item in
+    let r = c .before .before .before .before .before .before .before .before .before .before .before .before .before .before .before .before .before .before .before .before .track .ensures .0 .1 in let y = c .before .before .before .before .before .before .before .before .before .before .before .before .tally .ensures in let j = c .before .before .before .before .before .before .before .before .judge .ensures in (
+      added-as (λ T. let R = r (unrowed d T) .1 in let h = is-entry d T in item-is (T .known .view .image) e h R (y (filled-of T h R) .2))
+          (added-join (added-by (λ T. unrowed d T) (λ T. refl) (c .before .before .before .before .before .before .before .before .before .before .before .before .before .before .before .before .before .before .before .before .track .ensures .1)) (added-by (λ T. tt) (λ T. refl) (j .0))),
       λ T.
-          let R = r (T .known) _ (start-rows T) in
-          let G = y (filled-of T (sym (k (T .known .view)) ∙ z) R) in (
+          let R = r (unrowed d T) .1 in
+          let G = y (filled-of T (is-entry d T) R) in (
             record {
               size = R .size;
               burned-none = G .0;
               first-none = c .before .before .before .untrack .ensures (placed-of T (b .1) R) First (R .first-rows);
               last-none = c .untrack2 .ensures (placed-of T (b .1) R) Last (R .last-rows);
-              blank = blanked (d .before .before .before .before .before .before .before .before .args .item) R (G .2) (j .1 .0) (j .1 .1);
+              blank = blanked e R (G .2) (j .1 .0) (j .1 .1);
             },
             G .1,
           ),
     )
 
 pub entry-spec : {M : Type 1} → statement M
-entry-spec =
-    tie.close
-    (tie.spec (λ c κs. search needs) returns (λ c κs. search needs)
-    (λ c κs. let d = (c .before .before .before) in let b = d .before .before .before .before .before .before .before .before .pre in let T = b .0 in let k = sym (d .before .before .before .before .before .kind .ensures (T .known .view)) ∙ d .before .before .before .before .if1 .left in (rowed-of T k (d .track .ensures .1 (T .known) _ (start-rows T)) (b .1) (b .2), search needs))
-    tally-requires
-    (λ c κs. let d = (c .before .before .before .before .before .before .before .before .before .before .before .before .before .before .before) in let l = d .before .before .before .before .before .before .before .before .pre .4 in let f = c .before .before .before .before .before .before .before .before .before .before .before .aliases .ensures .few in (d .track .ensures .0, omega arith))
-    (λ c κs. let d = (c .before .before .before .before .before .before .before .before .before .before .before .before .before .before .before .before .before .before .before .before) in let b = d .before .before .before .before .before .before .before .before .pre in placed-of (b .0) (b .1) (d .track .ensures .1 (b .0 .known) _ (start-rows (b .0))))
-    (λ c κs. let d = (c .before .before .before .before .before .before .before .before .before .before .before .before .before .before .before .before .before .before .before .before .before .before .before) in let b = d .before .before .before .before .before .before .before .before .pre in placed-of (b .0) (b .1) (d .track .ensures .1 (b .0 .known) _ (start-rows (b .0))))
-    (λ c. search needs) returns-2)
+entry-spec = tie.close (tie.spec (λ c κs. search needs) returns track-requires tally-requires judge-requires untrack-requires untrack-requires-2 (λ c. search needs) returns-2)

@@ -1,28 +1,22 @@
 -- `mark_readers` meets its contract: the words one after another.
-use borrow.Author.Needs.{needs}
-use Prim.Native.Nat.{ℕ}
-use mathlib.Core.Path.{_≡_, refl, sym}
-use mathlib.Core.Bool.{Bool, true, false}
-use mathlib.Core.List.{List}
-use Rattle.rules.specs.Sweep.{either, same, hasWord}
-use Rattle.rules.specs.Words.{get, contains, has-word}
-use Rattle.nodes.specs.Marks.{Marks}
-use Rattle.nodes.proofs.Names.{marks-as, either-false}
-use Rattle.linear_occurrences.specs.Counted.{isReader}
+use Rattle.rules.specs.Words.{readers}
+use Rattle.names.proofs.Marked.{number-small}
+use Rattle.names.proofs.Several.{marked, marks-words}
 use Rattle.linear_occurrences.proofs.mark_readers.Statement.{statement}
 use Rattle.linear_occurrences.proofs.mark_readers.Tie as tie
 
-three : (a b c : Bool) → either (either (either false a) b) c ≡ either a (either b (either c false))
-three true b c = refl
-three false true c = refl
-three false false c = sym (either-false c)
+mark-number-requires : tie.Need-mark-number-requires
+mark-number-requires c κs = let P = c .before .pre in number-small (P .1) (P .2 .methods-are .get-is)
 
-readers-of : {s : List ℕ} {r : List Bool} → Marks s (λ v. either (either (either false (same v get)) (same v contains)) (same v has-word)) r → Marks s isReader r
-unfolding hasWord
-readers-of M = marks-as (λ v. three (same v get) (same v contains) (same v has-word)) M
+mark-number-requires-2 : tie.Need-mark-number-requires-2
+mark-number-requires-2 c κs = let P = c .before .before .before .pre in number-small (P .1) (P .2 .methods-are .contains-is)
+
+mark-number-requires-3 : tie.Need-mark-number-requires-3
+mark-number-requires-3 c κs = let P = c .before .before .before .before .before .pre in number-small (P .1) (P .2 .has-is)
 
 returns : tie.Need-returns
-returns c = λ M. readers-of (c .mark-word3 .ensures _ (c .before .before .before .mark-word2 .ensures _ (c .before .before .before .before .before .before .mark-word .ensures _ M)))
+unfolding marked
+returns c = λ s e w M. marks-words readers (c .mark-number3 .ensures s _ _ e (w .has-is) (c .before .before .mark-number2 .ensures s _ _ e (w .methods-are .contains-is) (c .before .before .before .before .mark-number .ensures s _ _ e (w .methods-are .get-is) M)))
 
 pub mark-readers-spec : {M : Type 1} → statement M
-mark-readers-spec = tie.close (tie.spec (λ c. search needs) (λ c κs. search needs) (λ c. search needs) (λ c κs. search needs) (λ c. search needs) (λ c κs. search needs) returns)
+mark-readers-spec = tie.close (tie.spec mark-number-requires mark-number-requires-2 mark-number-requires-3 returns)

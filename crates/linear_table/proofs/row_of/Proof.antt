@@ -14,10 +14,10 @@ placed : (c : tie.After-wide) → PlaceOf (c .before .before .args .nodes .now) 
 placed c = subst (PlaceOf (c .before .before .args .nodes .now)) (sym (c .wide .ensures .0)) (c .before .before .pre)
 
 worded : (c : tie.After-name-at) → Worded (c .before .before .before .args .nodes .now) 0 (c .name-at .result)
-worded c = let T = placed ((c .before)) in subst (Worded (c .before .before .before .args .nodes .now) 0) (sym (c .name-at .ensures T)) (name-worded T)
+worded c = let T = placed (c .before) in subst (Worded (c .before .before .before .args .nodes .now) 0) (sym (c .name-at .ensures T)) (name-worded T)
 
 small : (c : tie.After-name) → (1 ≤ c .name .result) × (c .name .result ≤ 1024)
-small c = numbered (worded ((c .before))) (c .name .ensures)
+small c = numbered (worded (c .before)) (c .name .ensures)
 
 returns : tie.Need-returns
 returns c = λ T.

@@ -11,19 +11,19 @@ small : (c : tie.After-name) → (1 ≤ c .name .result) × (c .name .result ≤
 small c = numbered (c .before .before .pre .0) (c .name .ensures)
 
 sub-i : tie.Need-sub-i
-sub-i c = let g = small (c) in omega arith
+sub-i c = let g = small c in omega arith
 
 mul-taken : tie.Need-mul-taken
-mul-taken c = let g = small (c) in omega arith
+mul-taken c = let g = small c in omega arith
 
 element-copy-out-taken : tie.Need-element-copy-out-taken
-element-copy-out-taken c = let g = small (c) in omega arith
+element-copy-out-taken c = let g = small c in omega arith
 
 mul-rows : tie.Need-mul-rows
-mul-rows c = let g = small ((c .before .before)) in omega arith
+mul-rows c = let g = small (c .before .before) in omega arith
 
 element-write-rows : tie.Need-element-write-rows
-element-write-rows c = let g = small ((c .before .before)) in omega arith
+element-write-rows c = let g = small (c .before .before) in omega arith
 
 returns : tie.Need-returns
 returns c = λ W F N. note-word W (c .before .before .before .before .pre .0) (c .before .before .before .before .args .note) (c .before .before .before .before .args .row) N (c .before .before .name .ensures W) (c .taken .ensures)

@@ -26,7 +26,7 @@ here : (c : tie.In-loop Inv-loop μ-loop) → In (c .before .before .before .bef
 here c = search needs
 
 next : (c : tie.After-next-declaration Inv-loop μ-loop) (W : View (c .before .before .before .before .before .before .before .args .nodes .now) 0) → Next W (c .before .before .before .before .before .before .before .args .kind ∷ []) (c .before .before .before .before .loop .p) (c .next-declaration .result)
-next c W = next-of _ declarations (one-in _ declarations (c .before .before .before .before .before .before .before .pre .0 .1)) (declarations-on W (here ((c .before .before .before))) (c .before .before .before .before .loop .inv .fold .low) (c .next-declaration .ensures W))
+next c W = next-of _ declarations (one-in _ declarations (c .before .before .before .before .before .before .before .pre .0 .1)) (declarations-on W (here (c .before .before .before)) (c .before .before .before .before .loop .inv .fold .low) (c .next-declaration .ensures W))
 
 loop-less : tie.Need-loop-less Inv-loop μ-loop
 loop-less c = let m = walk-moves (c .before .before .before .before .before .before .before .pre .1) (c .before .before .before .before .before .before .before .pre .2) (c .before .before .before .before .before .end .ensures) (c .before .before .before .before .loop .inv) (c .before .before .before .loop-test .taken) (next c) in omega arith

@@ -2,55 +2,59 @@
 use borrow.Author.Needs.{needs}
 use native.Mathlib.Omega.{arith}
 use Prim.Native.Nat.{_-_, _<_, _≤_}
-use mathlib.Core.Path.{_≡_, refl, sym, ap, _∙_}
-use Rattle.image.specs.Node.{endOf}
-use Rattle.image.proofs.Walk.{Stepped, child-is, end-is as stop-is}
-use Rattle.nodes.specs.Shown.{View, In, treeOf}
-use Rattle.nodes.proofs.Parts.{end-is}
+use mathlib.Core.Path.{refl}
+use Rattle.nodes.specs.Shown.{In}
+use Rattle.nodes.proofs.Shapes.{within}
 use Rattle.nodes.proofs.Spans.{Span, span-of, child-on}
+use Rattle.nodes.proofs.Cursors.{Over, before-last, past-last, stands, still-over, on-to}
 use Rattle.resolve_events.proofs.Counting.{Counting, counting-starts, counting-on, counting-done}
 use Rattle.resolve_events.proofs.arguments.Statement.{statement}
 use Rattle.resolve_events.proofs.arguments.Tie as tie
 
 abbrev Inv-loop : tie.InvT-loop
-Inv-loop area emit end number₀ children₀ number children = Span area 0 emit end × (children .end ≡ end) × Counting area 0 emit end number (children .at)
+Inv-loop area emit end number₀ children₀ number children = Over 0 end children × Span area 0 emit end × Counting area 0 emit end number (children .at)
 
 abbrev μ-loop : tie.MeasureT-loop
 μ-loop area emit end number₀ children₀ number children = end - children .at
 
-end-requires : tie.Need-end-requires Inv-loop μ-loop
-end-requires c κs = c .before .pre .1 .0
+-- the child at hand stands in the part, and the next one behind it
+here : (c : tie.Then1 Inv-loop μ-loop) → In (c .before .before .before .before .before .args .area .now) 0 (c .before .before .loop .children .at)
+here c =
+    let W = c .before .before .before .before .before .pre .0 in
+    let i = c .before .before .loop .inv in
+    let l = i .2 .low in
+    let e = c .before .before .before .end .ensures W in
+    let h = before-last (i .0) (c .if1 .taken) in
+    within W (c .before .before .before .before .before .pre .1 .0) (omega arith) (omega arith)
+
+moved : (c : tie.After-step Inv-loop μ-loop) → (c .before .before .before .loop .children .at < c .step .result .rest .at) × (c .step .result .rest .at ≤ c .before .before .before .before .end .result)
+moved c =
+    let W = c .before .before .before .before .before .before .pre .0 in
+    let i = c .before .before .before .loop .inv in
+    let l = i .2 .low in
+    child-on W (c .before .before .before .before .before .before .pre .1 .0) (c .before .before .before .before .end .ensures W) (omega arith) (before-last (i .0) (c .before .if1 .taken)) (on-to (i .0) (c .step .ensures) W)
 
 loop-holds : tie.Need-loop-holds Inv-loop μ-loop
-loop-holds c = let W = c .before .before .pre .0 in (span-of W (c .before .before .pre .1 .0) (c .end .ensures W), refl, counting-starts W (c .before .before .pre .1) (c .end .ensures))
+loop-holds c = let W = c .before .before .pre .0 in (record { part = refl; last = refl }, span-of W (c .before .before .pre .1 .0) (c .end .ensures W), counting-starts W (c .before .before .pre .1) (c .end .ensures))
 
 step-requires : tie.Need-step-requires Inv-loop μ-loop
-step-requires c κs = let S = c .loop .inv .0 in let h = S .held in let e = c .loop .inv .1 in omega arith
-
--- what the step told: the child at the cursor, which goes on to the child's end
-told : (c : tie.After-rest Inv-loop μ-loop) → Stepped (c .before .before .before .before .before .before .args .area .now) (c .before .before .before .loop .children .at) (c .before .before .before .loop .children .end) (c .rest .given .0 .0) (c .rest .given .0 .1 .0)
-told c = child-is _ _ _ _ _ (sym (c .rest .given .1) ∙ c .before .before .step .ensures)
-
-here : (c : tie.After-rest Inv-loop μ-loop) → In (c .before .before .before .before .before .before .args .area .now) 0 (c .before .before .before .loop .children .at) × (c .before .before .before .loop .children .at < c .before .before .before .before .end .result)
-here c = let S = c .before .before .before .loop .inv .0 in let h = S .held in let u = S .under in let e = c .before .before .before .loop .inv .1 in let l = c .before .before .before .loop .inv .2 .low in let t = told c .inside in ((omega arith, omega arith, omega arith), omega arith)
-
-next-is : (c : tie.After-rest Inv-loop μ-loop) (W : View (c .before .before .before .before .before .before .args .area .now) 0) → c .rest .given .0 .1 .0 .at ≡ treeOf W .end (c .before .before .before .loop .children .at)
-next-is c W = let z : c .before .before .before .loop .children .at ≡ c .before .before .before .loop .children .at - 0 = omega arith in told c .next ∙ ap (endOf (c .before .before .before .before .before .before .args .area .now)) z ∙ end-is W (here c .0)
-
-moved : (c : tie.After-rest Inv-loop μ-loop) → (c .before .before .before .loop .children .at < c .rest .given .0 .1 .0 .at) × (c .rest .given .0 .1 .0 .at ≤ c .before .before .before .before .end .result)
-moved c = let W = c .before .before .before .before .before .before .pre .0 in let l = c .before .before .before .loop .inv .2 .low in child-on W (c .before .before .before .before .before .before .pre .1 .0) (c .before .before .before .before .end .ensures W) (omega arith) (here c .1) (next-is c W)
+step-requires c κs = stands (c .before .before .loop .inv .0) (c .before .before .before .before .before .args .area .now) (here c)
 
 add-number : tie.Need-add-number Inv-loop μ-loop
-add-number c = let f = c .before .before .before .before .loop .inv .2 .few in let h = c .before .before .before .before .loop .inv .2 .high in let u = c .before .before .before .before .loop .inv .0 .under in omega arith
+add-number c = let i = c .before .before .before .before .loop .inv in let f = i .2 .few in let h = i .2 .high in let u = i .1 .under in omega arith
 
 loop-less : tie.Need-loop-less Inv-loop μ-loop
 loop-less c = let m = moved ((c .before)) in omega arith
 
 loop-again : tie.Need-loop-again Inv-loop μ-loop
-loop-again c = let d = (c .before) in let i = c .before .before .before .before .loop .inv in (i .0, told d .same ∙ i .1, counting-on (c .before .before .before .before .before .before .before .pre .0) (c .before .before .before .before .before .before .before .pre .1) (c .before .before .before .before .before .end .ensures) (i .2) (here d .1) (next-is d))
+loop-again c =
+    let i = c .before .before .before .before .loop .inv in
+    (still-over (i .0) (c .before .step .ensures), i .1, counting-on (c .before .before .before .before .before .before .before .pre .0) (c .before .before .before .before .before .before .before .pre .1) (c .before .before .before .before .before .end .ensures) (i .2) (before-last (i .0) (c .before .before .if1 .taken)) (on-to (i .0) (c .before .step .ensures)))
 
 returns : tie.Need-returns Inv-loop μ-loop
-returns c = let h = stop-is (c .before .before .before .before .before .before .args .area .now) (c .before .before .before .loop .children .at) (c .before .before .before .loop .children .end) (sym (c .enum-told .given .1) ∙ c .before .before .step .ensures) in let e = c .before .before .before .loop .inv .1 in counting-done (c .before .before .before .before .before .before .pre .0) (c .before .before .before .before .before .before .pre .1) (c .before .before .before .before .end .ensures) (c .before .before .before .loop .inv .2) (omega arith)
+returns c =
+    let i = c .before .before .loop .inv in
+    counting-done (c .before .before .before .before .before .pre .0) (c .before .before .before .before .before .pre .1) (c .before .before .before .end .ensures) (i .2) (past-last (i .0) (c .if1 .left))
 
 pub arguments-spec : {M : Type 1} → statement M
-arguments-spec = tie.close (tie.spec Inv-loop μ-loop end-requires (λ c. search needs) loop-holds step-requires (λ c. search needs) add-number loop-less loop-again (λ c. search needs) returns)
+arguments-spec = tie.close (tie.spec Inv-loop μ-loop (λ c κs. c .before .pre .1 .0) (λ c. search needs) loop-holds step-requires add-number loop-less loop-again returns)

@@ -3,9 +3,11 @@ use native.Mathlib.Omega.{arith}
 use Prim.Native.Nat.{ℕ, _+_, _*_, _-_, _<_, _≤_}
 use mathlib.Core.Path.{_≡_, refl, sym, ap, _∙_}
 use mathlib.Core.Bool.{true}
-use borrow.Fn.Kinds.{In}
+use mathlib.Core.List.{_++_}
+use borrow.Fn.Kinds.{In as Takes}
 use borrow.Fn.PlainCycle.{Measures, is, falls, and}
-use Rattle.nodes.specs.Shown.{View, treeOf}
+use Rattle.nodes.specs.Shown.{View, In, treeOf}
+use Rattle.nodes.proofs.Cursors.{Over, before-last, past-last, stands, still-over, on-to}
 use Rattle.nodes.proofs.Fall.{not-true, not-false}
 use Rattle.rules.specs.Resolve.{comma, typeText}
 use Rattle.signature.specs.Texts.{argsFrom, hasArguments, Texts}
@@ -19,6 +21,7 @@ use Rattle.signature.proofs.write_type.Reads as write-type
 use Rattle.signature.proofs.write_type.Kinds as write-type-kinds
 use Rattle.signature.proofs.+write_args+write_type.Lts-write_type as type-lts
 use Rattle.nodes.proofs.end.Reads as end-reads
+use Rattle.nodes.proofs.Cursor.step.Reads as step-reads
 use Rattle.signature.proofs.put.Reads as put-reads
 use Rattle.signature.proofs.put_comma.Reads as put-comma-reads
 use Rattle.signature.proofs.put_head.Reads as put-head-reads
@@ -33,21 +36,21 @@ abbrev μ-type : Measures 4 write-type-kinds.ps ℕ
 μ-type κs a = 2 * a .1 .1 .1 .1 .1 .0
 
 -- what each is given at the measure t, and what a call of it asks below t
-abbrev args-at : ℕ → In 4 write-args-kinds.ps
+abbrev args-at : ℕ → Takes 4 write-args-kinds.ps
 args-at t = and 4 write-args-kinds.ps (is 4 write-args-kinds.ps μ-args t) write-args.Pre
 
-abbrev args-below : ℕ → In 4 write-args-kinds.ps
+abbrev args-below : ℕ → Takes 4 write-args-kinds.ps
 args-below t = and 4 write-args-kinds.ps (falls 4 write-args-kinds.ps _<_ μ-args t) write-args.Pre
 
-abbrev type-at : ℕ → In 4 write-type-kinds.ps
+abbrev type-at : ℕ → Takes 4 write-type-kinds.ps
 type-at t = and 4 write-type-kinds.ps (is 4 write-type-kinds.ps μ-type t) write-type.Pre
 
-abbrev type-below : ℕ → In 4 write-type-kinds.ps
+abbrev type-below : ℕ → Takes 4 write-type-kinds.ps
 type-below t = and 4 write-type-kinds.ps (falls 4 write-type-kinds.ps _<_ μ-type t) write-type.Pre
 
 -- what is known of the functions that each calls
 abbrev args-calls : ℕ → args-lts.Claims
-args-calls t = (end-reads.Asked, end-reads.Learnt, put-comma-reads.Asked, put-comma-reads.Learnt, type-below t, write-type.Post)
+args-calls t = (end-reads.Asked, end-reads.Learnt, step-reads.Asked, step-reads.Learnt, put-comma-reads.Asked, put-comma-reads.Learnt, type-below t, write-type.Post)
 
 abbrev type-calls : ℕ → type-lts.Claims
 type-calls t = (
@@ -61,104 +64,95 @@ type-calls t = (
   write-args.Post,
 )
 
--- the arguments from y + 2 on end as those from c on do
+-- the arguments from y + 2 on end as those from the cursor on do
 abbrev Inv : args-lts.InvT-loop
-Inv part b names text y levels out₀ at end o₀ c₀ out o c =
-    (y + 2 ≤ c) × (c ≤ end) × ((W : View part b) → ChildAt (treeOf W) y c)
-    × ((T : Texts part b names text) → Goes out₀ at (argsFrom levels (treeOf (T .view)) y (y + 2)) out o (argsFrom levels (treeOf (T .view)) y c))
+Inv part b names text y levels out₀ at to o₀ children₀ out o children =
+    Over b to children × (y + 2 ≤ children .at) × (children .at ≤ to) × ((W : View part b) → ChildAt (treeOf W) y (children .at))
+    × ((T : Texts part b names text) → Goes out₀ at (argsFrom levels (treeOf (T .view)) y (y + 2)) out o (argsFrom levels (treeOf (T .view)) y (children .at)))
 
 abbrev μ : args-lts.MeasureT-loop
-μ part b names text y levels out₀ at end o₀ c₀ out o c = end - c
+μ part b names text y levels out₀ at to o₀ children₀ out o children = to - children .at
 
 module _ (t : ℕ) where
   -- the argument at hand stands before the end of the type, which is named
-  before-end : (x : args-lts.In-loop (args-calls t) (args-at t) write-args.Post Inv μ) (W : View (x .before .before .before .before .before .before .before .args .nodes .now) (x .before .before .before .before .before .before .before .args .base)) → x .before .loop .c < treeOf W .end (x .before .before .before .before .before .before .before .args .y)
-  before-end x W = let e = x .before .before .end .ensures W in let g = x .loop-test .taken in omega arith
+  before-end : (c : args-lts.Then1 (args-calls t) (args-at t) write-args.Post Inv μ) (W : View (c .before .before .before .before .before .before .before .before .args .nodes .now) (c .before .before .before .before .before .before .before .before .args .base)) → c .before .before .loop .children .at < treeOf W .end (c .before .before .before .before .before .before .before .before .args .y)
+  before-end c W = let e = c .before .before .before .end .ensures W in let g = before-last (c .before .before .loop .inv .0) (c .if1 .taken) in omega arith
 
-  named-by : (x : args-lts.In-loop (args-calls t) (args-at t) write-args.Post Inv μ) (W : View (x .before .before .before .before .before .before .before .args .nodes .now) (x .before .before .before .before .before .before .before .args .base)) → treeOf W .kind (x .before .before .before .before .before .before .before .args .y) ≡ 11
-  named-by x W = let P = x .before .before .before .before .before .before .before .pre .1 in kinds-agree W (P .texts .view) (P .there) ∙ P .is-named
+  named-by : (c : args-lts.Then1 (args-calls t) (args-at t) write-args.Post Inv μ) (W : View (c .before .before .before .before .before .before .before .before .args .nodes .now) (c .before .before .before .before .before .before .before .before .args .base)) → treeOf W .kind (c .before .before .before .before .before .before .before .before .args .y) ≡ 11
+  named-by c W = let P = c .before .before .before .before .before .before .before .before .pre .1 in kinds-agree W (P .texts .view) (P .there) ∙ P .is-named
 
-  args-end-requires : args-lts.Need-end-requires (args-calls t) (args-at t) write-args.Post Inv μ
-  args-end-requires c κs =
-      c .before .before .before .before .pre .1 .there
-
-  args-add-c : args-lts.Need-add-c (args-calls t) (args-at t) write-args.Post Inv μ
-  args-add-c c =
-      let h = c .before .before .before .before .before .pre .1 .there .2 in omega arith
+  place : (c : args-lts.Then1 (args-calls t) (args-at t) write-args.Post Inv μ) → In (c .before .before .before .before .before .before .before .before .args .nodes .now) (c .before .before .before .before .before .before .before .before .args .base) (c .before .before .loop .children .at)
+  place c = let P = c .before .before .before .before .before .before .before .before .pre .1 in let W = P .texts .view in arg-in W (P .there) (P .is-named) (c .before .before .loop .inv .1) (before-end c W)
 
   args-loop-holds : args-lts.Need-loop-holds (args-calls t) (args-at t) write-args.Post Inv μ
   args-loop-holds c =
       let P = c .before .before .before .before .before .pre .1 in
       let f = args-first (P .texts .view) (P .there) (P .is-named) .1 in
       let e = c .end .ensures (P .texts .view) in
-      (omega arith, omega arith, λ W. args-first W (P .there) (kinds-agree W (P .texts .view) (P .there) ∙ P .is-named) .0, λ T. goes-refl)
+      (record { part = refl; last = refl }, omega arith, omega arith, (λ W. args-first W (P .there) (kinds-agree W (P .texts .view) (P .there) ∙ P .is-named) .0), λ T. goes-refl)
 
-  args-add-put-comma : args-lts.Need-add-put-comma (args-calls t) (args-at t) write-args.Post Inv μ
-  args-add-put-comma c =
-      let h = c .before .before .before .before .before .before .before .pre .1 .there .2 in omega arith
+  -- what remains begins with the argument at hand
+  more : (c : args-lts.After-step (args-calls t) (args-at t) write-args.Post Inv μ) (W : View (c .before .before .before .before .before .before .before .before .before .args .nodes .now) (c .before .before .before .before .before .before .before .before .before .args .base)) (next : ℕ) → next ≡ treeOf W .end (c .before .before .before .loop .children .at)
+      → argsFrom (c .before .before .before .before .before .before .before .before .before .args .levels) (treeOf W) (c .before .before .before .before .before .before .before .before .before .args .y) (c .before .before .before .loop .children .at)
+      ≡ comma (c .before .before .before .before .before .before .before .before .before .args .y + 2) (c .step .result .child) ++ (typeText (c .before .before .before .before .before .before .before .before .before .args .levels) (treeOf W) (c .step .result .child) ++ argsFrom (c .before .before .before .before .before .before .before .before .before .args .levels) (treeOf W) (c .before .before .before .before .before .before .before .before .before .args .y) next)
+  more c W next n = let d = (c .before) in rw (c .step .ensures .child) (arg-more W (c .before .before .before .before .before .before .before .before .before .pre .1 .there) (named-by d W) (c .before .before .before .loop .inv .1) (before-end d W) (c .before .before .before .loop .inv .3 W) n _)
 
   args-put-comma-requires : args-lts.Need-put-comma-requires (args-calls t) (args-at t) write-args.Post Inv μ
   args-put-comma-requires c κs =
-      let P = c .before .before .before .before .before .before .before .before .pre .1 in
+      let P = c .before .before .before .before .before .before .before .before .before .before .pre .1 in
       let W = P .texts .view in
-      let a = c .before .before .before .before .before .before .before .before .args in
-      let l = c .before .before .loop in
-      room-comma (l .inv .3 (P .texts)) (comma (a .y + 2) (l .c)) (typeText (a .levels) (treeOf W) (l .c)) (argsFrom (a .levels) (treeOf W) (a .y) (treeOf W .end (l .c)))
-      (arg-more W (P .there) (P .is-named) (l .inv .0) (before-end (c .before) W) (l .inv .2 W) refl _) (P .room)
+      let a = c .before .before .before .before .before .before .before .before .before .before .args in
+      let x = c .before .step .result .child in
+      room-comma (c .before .before .before .before .loop .inv .4 (P .texts)) (comma (a .y + 2) x) (typeText (a .levels) (treeOf W) x) (argsFrom (a .levels) (treeOf W) (a .y) (treeOf W .end (c .before .before .before .before .loop .children .at))) (more (c .before) W _ refl) (P .room)
 
   args-write-type-requires : args-lts.Need-write-type-requires (args-calls t) (args-at t) write-args.Post Inv μ
   args-write-type-requires c κs =
-      let P = c .before .before .before .before .before .before .before .before .before .before .before .before .pre .1 in
+      let P = c .before .before .before .before .before .before .before .before .before .before .before .before .before .before .pre .1 in
       let W = P .texts .view in
-      let l = c .before .before .before .before .before .before .loop in
-      let m = c .before .before .before .before .before .before .before .before .before .before .before .before .pre .0 in
-      let h = before-end (c .before .before .before .before .before) W in (
+      let i = c .before .before .before .before .before .before .before .before .loop .inv in
+      let m = c .before .before .before .before .before .before .before .before .before .before .before .before .before .before .pre .0 in
+      let d = (c .before .before .before .before .before .before) in
+      let e = c .before .before .before .before .before .step .ensures .child in (
         omega arith,
         record {
           texts = P .texts;
-          there = arg-in W (P .there) (P .is-named) (l .inv .0) h;
-          is-type = arg-kind W (P .there) (P .is-named) (l .inv .0) h (l .inv .2 W);
-          room = room-item (l .inv .3 (P .texts)) _ _ _ (arg-more W (P .there) (P .is-named) (l .inv .0) h (l .inv .2 W) refl _) (P .room) (c .before .before .before .put-comma .ensures);
+          there = rw e (place d);
+          is-type = rw e (arg-kind W (P .there) (P .is-named) (i .1) (before-end d W) (i .3 W));
+          room = room-item (i .4 (P .texts)) _ _ _ (more (c .before .before .before .before .before) W _ refl) (P .room) (c .before .before .before .put-comma .ensures);
         },
       )
 
-  args-end-requires-2 : args-lts.Need-end-requires-2 (args-calls t) (args-at t) write-args.Post Inv μ
-  args-end-requires-2 c κs =
-      let P = c .before .before .before .before .before .before .before .before .before .before .before .before .before .before .before .pre .1 in let W = P .texts .view in arg-in W (P .there) (P .is-named) (c .before .before .before .before .before .before .before .before .before .loop .inv .0) (before-end (c .before .before .before .before .before .before .before .before) W)
-
   -- the next argument
-  moved : (c : args-lts.After-end2 (args-calls t) (args-at t) write-args.Post Inv μ) → (c .before .before .before .before .before .before .before .before .before .before .loop .c < c .end2 .result) × (c .end2 .result ≤ c .before .before .before .before .before .before .before .before .before .before .before .end .result)
+  moved : (c : args-lts.After-step (args-calls t) (args-at t) write-args.Post Inv μ) → (c .before .before .before .loop .children .at < c .step .result .rest .at) × (c .step .result .rest .at ≤ c .before .before .before .before .end .result)
   moved c =
-      let P = c .before .before .before .before .before .before .before .before .before .before .before .before .before .before .before .before .pre .1 in
+      let P = c .before .before .before .before .before .before .before .before .before .pre .1 in
       let W = P .texts .view in
-      let l = c .before .before .before .before .before .before .before .before .before .before .loop in
-      let e = c .before .before .before .before .before .before .before .before .before .before .before .end .ensures W in
-      let n = arg-past W (P .there) (P .is-named) (l .inv .0) (before-end (c .before .before .before .before .before .before .before .before .before) W) (l .inv .2 W) (c .end2 .ensures W) in
+      let i = c .before .before .before .loop .inv in
+      let e = c .before .before .before .before .end .ensures W in
+      let n = arg-past W (P .there) (P .is-named) (i .1) (before-end (c .before) W) (i .3 W) (on-to (i .0) (c .step .ensures) W) in
       (n .0, omega arith)
 
   args-loop-less : args-lts.Need-loop-less (args-calls t) (args-at t) write-args.Post Inv μ
-  args-loop-less c = let m = moved c in omega arith
+  args-loop-less c = let m = moved (c .before .before .before .before .before .before .before .before .before) in omega arith
 
   args-loop-again : args-lts.Need-loop-again (args-calls t) (args-at t) write-args.Post Inv μ
   args-loop-again c =
-      let P = c .before .before .before .before .before .before .before .before .before .before .before .before .before .before .before .before .pre .1 in
-      let l = c .before .before .before .before .before .before .before .before .before .before .loop in
-      let d = c .before .before .before .before .before .before .before .before .before in
-      let m = moved c in
-      let low = l .inv .0 in (
+      let P = c .before .before .before .before .before .before .before .before .before .before .before .before .before .before .before .before .before .before .pre .1 in
+      let i = c .before .before .before .before .before .before .before .before .before .before .before .before .loop .inv in
+      let d = (c .before .before .before .before .before .before .before .before .before .before) in
+      let m = moved (c .before .before .before .before .before .before .before .before .before) in
+      let on = on-to (i .0) (c .before .before .before .before .before .before .before .before .before .step .ensures) in
+      let low = i .1 in (
+        still-over (i .0) (c .before .before .before .before .before .before .before .before .before .step .ensures),
         omega arith,
         m .1,
-        λ X. arg-next X (P .there) (named-by d X) low (before-end d X) (l .inv .2 X) (c .end2 .ensures X),
-        λ T. goes-on (l .inv .3 T) _ _ _ (arg-more (T .view) (P .there) (named-by d (T .view)) low (before-end d (T .view)) (l .inv .2 (T .view)) (c .end2 .ensures (T .view)) _) (c .before .before .before .before .before .before .before .put-comma .ensures) (c .before .before .before .write-type .ensures T),
+        (λ X. arg-next X (P .there) (named-by d X) low (before-end d X) (i .3 X) (on X)),
+        λ T. goes-on (i .4 T) _ _ _ (more (c .before .before .before .before .before .before .before .before .before) (T .view) _ (on (T .view))) (c .before .before .before .before .before .before .before .put-comma .ensures) (c .before .before .before .write-type .ensures T),
       )
-
-  args-same-length : args-lts.Need-same-length (args-calls t) (args-at t) write-args.Post Inv μ
-  args-same-length c =
-      goes-length (c .before .loop .inv .3 (c .before .before .before .before .before .before .before .pre .1 .texts))
 
   args-returns : args-lts.Need-returns (args-calls t) (args-at t) write-args.Post Inv μ
   args-returns c =
-      λ T. let e = c .before .before .end .ensures (T .view) in let g = c .loop-test .left in goes-end (goes-trans (c .before .loop .inv .3 T) (goes-as (args-done (treeOf (T .view)) _ _ (c .before .loop .c) (omega arith))))
+      λ T. let e = c .before .before .before .end .ensures (T .view) in let i = c .before .before .loop .inv in let g = past-last (i .0) (c .if1 .left) in goes-end (goes-trans (i .4 T) (goes-as (args-done (treeOf (T .view)) _ _ (c .before .before .loop .children .at) (omega arith))))
 
 module _ (t : ℕ) where
   -- a type with arguments: its text is its Name and, in brackets, these
@@ -220,5 +214,7 @@ module _ (t : ℕ) where
 pub +write-args+write-type-spec : {M : Type 1} → statement M
 +write-args+write-type-spec =
     close μ-args μ-type
-    (λ t. args-lts.spec (args-calls t) (args-at t) write-args.Post Inv μ (args-end-requires t) (args-add-c t) (args-loop-holds t) (args-add-put-comma t) (args-put-comma-requires t) (args-write-type-requires t) (args-end-requires-2 t) (args-loop-less t) (args-loop-again t) (args-same-length t) (args-returns t))
+    (λ t. args-lts.spec (args-calls t) (args-at t) write-args.Post Inv μ
+    (λ c κs. c .before .before .before .before .pre .1 .there) (λ c. let h = c .before .before .before .before .before .pre .1 .there .2 in omega arith) (args-loop-holds t) (λ c κs. stands (c .before .before .loop .inv .0) (c .before .before .before .before .before .before .before .before .args .nodes .now) (place t c)) (λ c. let h = c .before .before .before .before .before .before .before .before .before .pre .1 .there .2 in omega arith) (args-put-comma-requires t)
+    (args-write-type-requires t) (args-loop-less t) (args-loop-again t) (λ c. goes-length (c .before .before .loop .inv .4 (c .before .before .before .before .before .before .before .before .pre .1 .texts))) (args-returns t))
     (λ t. type-lts.spec (type-calls t) (type-at t) write-type.Post (type-returns t) (type-put-head-requires t) (type-has-arguments-requires t) (type-same-length t) (type-returns-2 t) (type-put-requires t) (type-sub-write-args t) (type-write-args-requires t) (type-put-requires-2 t) (type-same-length-2 t) (type-returns-3 t))

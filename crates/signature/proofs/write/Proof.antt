@@ -39,7 +39,6 @@ same-length : tie.Need-same-length
 same-length c = let T = c .before .before .before .before .before .before .before .before .before .before .before .before .before .before .before .before .before .before .before .before .pre .texts in wrote-length (wrote-then (c .before .before .before .before .before .before .before .before .before .before .before .before .before .before .put-text .ensures T) (wrote-then (c .before .before .before .before .before .before .before .before .before .before .put .ensures) (wrote-then (c .before .before .before .before .before .before .write-params .ensures T) (c .before .before .put2 .ensures))))
 
 -- the four texts one after another
-
 abbrev Given : tie.Start → Type 0
 Given a = Texts (a .args .nodes .now) (a .args .base) (a .args .names .now) (a .args .text .now)
 

@@ -1,23 +1,20 @@
--- `list_of` meets its contract: each pass's own list.
+-- `list_of` meets its contract: the pass's list, with look-ups of its own.
 use borrow.Author.Needs.{needs}
-use native.Mathlib.Omega.{arith}
-use Prim.Native.Nat.{_*_, _^_}
-use Rattle.typeck.proofs.Laws.{listed-by}
+use mathlib.Core.Path.{refl}
+use Rattle.records.proofs.Laws.{added-by}
+use Rattle.nodes.proofs.Heads.{root-of, view-of}
+use Rattle.typeck.proofs.Lookups.{looked-up, looked-of}
 use Rattle.typeck.proofs.list_of.Statement.{statement}
 use Rattle.typeck.proofs.list_of.Tie as tie
 
+mark-state-requires : tie.Need-mark-state-requires
+mark-state-requires c κs = let S = c .before .before .area .ensures in (view-of S, root-of S)
+
+list-with-requires : tie.Need-list-with-requires
+list-with-requires c κs = looked-of (looked-up (c .before .before .before .before .before .before .before .before .pre) (c .before .before .before .before .before .area .ensures) (c .before .before .before .before .find-words .ensures) (c .before .before .mark-state .ensures))
+
 returns : tie.Need-returns
-returns c = listed-by (c .before .before .before .before .before .before .before .before .args .image .now) (2 ^ 38) (c .before .before .before .before .enum-told .given .1) (omega arith) (c .before .before .list .ensures)
-
-returns-2 : tie.Need-returns-2
-returns-2 c = listed-by (c .before .before .before .before .before .before .before .before .args .image .now) (2 * 2048 * 2048) (c .before .before .before .before .enum-told2 .given .1) (omega arith) (c .before .before .list2 .ensures)
-
-returns-3 : tie.Need-returns-3
-returns-3 c = listed-by (c .before .before .before .before .before .before .before .before .args .image .now) (3070 * 2048) (c .before .before .before .before .enum-told3 .given .1) (omega arith) (c .before .before .list3 .ensures)
+returns c = added-by (λ _. looked-of (looked-up (c .before .before .before .before .before .before .before .before .before .before .before .pre) (c .before .before .before .before .before .before .before .before .area .ensures) (c .before .before .before .before .before .before .before .find-words .ensures) (c .before .before .before .before .before .mark-state .ensures))) (λ _. refl) (c .before .before .list-with .ensures)
 
 pub list-of-spec : {M : Type 1} → statement M
-list-of-spec =
-    tie.close
-    (tie.spec
-    (λ c. search needs) (λ c κs. search needs) (λ c. search needs) (λ c κs. search needs) (λ c. search needs) (λ c κs. search needs) (λ c. search needs)
-    returns (λ c. search needs) returns-2 (λ c. search needs) returns-3)
+list-of-spec = tie.close (tie.spec (λ c κs. search needs) (λ c κs. search needs) mark-state-requires list-with-requires (λ c. search needs) returns)

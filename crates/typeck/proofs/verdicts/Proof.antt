@@ -1,4 +1,4 @@
--- `verdicts` meets its contract: one admission, then each pass.
+-- `verdicts` meets its contract: one admission, then all passes.
 use borrow.Author.Needs.{needs}
 use mathlib.Core.Path.{sym, _∙_}
 use Rattle.rules.specs.Resolve.{resolve}
@@ -9,14 +9,8 @@ use Rattle.typeck.proofs.Laws.{judged-refused}
 use Rattle.typeck.proofs.verdicts.Statement.{statement}
 use Rattle.typeck.proofs.verdicts.Tie as tie
 
-first-of-requires : tie.Need-first-of-requires
-first-of-requires c κs = admitted-by _ _ (sym (c .before .before .before .admit .ensures) ∙ c .before .head .given .1)
-
-first-of-requires-2 : tie.Need-first-of-requires-2
-first-of-requires-2 c κs = admitted-by _ _ (sym (c .before .before .before .before .admit .ensures) ∙ c .before .before .head .given .1)
-
-first-of-requires-3 : tie.Need-first-of-requires-3
-first-of-requires-3 c κs = admitted-by _ _ (sym (c .before .before .before .before .before .admit .ensures) ∙ c .before .before .before .head .given .1)
+answer-all-requires : tie.Need-answer-all-requires
+answer-all-requires c κs = admitted-by _ _ (sym (c .before .before .before .admit .ensures) ∙ c .before .head .given .1)
 
 returns : tie.Need-returns
 returns c =
@@ -24,8 +18,5 @@ returns c =
     let e = sym (c .before .before .before .admit .ensures) ∙ c .before .r .given .1 in
     (judged-refused resolve s _ e, judged-refused access s _ e, judged-refused linear s _ e)
 
-returns-2 : tie.Need-returns-2
-returns-2 c = (c .before .before .first-of .ensures, c .before .first-of2 .ensures, c .first-of3 .ensures)
-
 pub verdicts-spec : {M : Type 1} → statement M
-verdicts-spec = tie.close (tie.spec (λ c κs. search needs) (λ c. search needs) (λ c. search needs) first-of-requires first-of-requires-2 first-of-requires-3 returns returns-2)
+verdicts-spec = tie.close (tie.spec (λ c κs. search needs) (λ c. search needs) (λ c. search needs) answer-all-requires returns (λ c. search needs))

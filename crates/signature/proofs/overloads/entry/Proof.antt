@@ -18,7 +18,6 @@ is-entry : (c : tie.Else1) (W : View (c .before .before .before .before .args .n
 is-entry c W = sym (c .before .kind .ensures W) ∙ c .if1 .left
 
 -- what is sought, by whichever image the nodes are seen; and what is found
-
 abbrev Given : tie.Start → Type 0
 Given a = Chained (a .args .nodes .now) (a .args .item) (a .args .heads .now) (a .args .links .now) (a .args .keys .now)
 

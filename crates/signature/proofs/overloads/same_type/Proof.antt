@@ -24,7 +24,6 @@ returns : tie.Need-returns Inv-loop μ-loop
 returns c = λ W. let a = c .before .before .end .ensures W in let d = c .before .end2 .ensures W in type-size (treeOf W) (c .before .before .before .before .args .i) (c .before .before .before .before .args .j) (λ e. c .if1 .taken (omega arith))
 
 -- the nodes at hand
-
 before-end : (c : tie.In-loop Inv-loop μ-loop) (W : View (c .before .before .before .before .before .before .args .nodes .now) 0) → (c .before .loop .d < treeOf W .end (c .before .before .before .before .before .before .args .i) - c .before .before .before .before .before .before .args .i) × (c .before .loop .d < treeOf W .end (c .before .before .before .before .before .before .args .j) - c .before .before .before .before .before .before .args .j)
 before-end c W = let a = c .before .before .before .before .end .ensures W in let f = c .before .before .before .end2 .ensures W in let q = c .before .before .if1 .left in let g = c .loop-test .taken in let x = past W (c .before .before .before .before .before .before .pre .1) .0 in let y = past W (c .before .before .before .before .before .before .pre .2) .0 in (omega arith, omega arith)
 
