@@ -9,7 +9,7 @@ use lib.Dec.{ltb}
 use lib.ListN.{length, getD, take, drop, length-drop}
 use lib.Seq.{take-all}
 use Rattle.image.specs.Node.{fullWord}
-use Rattle.image.specs.Digits.{Alike, fourOf}
+use Rattle.image.specs.Bytes.{Alike, fourOf}
 use Rattle.image.specs.Text.{less}
 use Rattle.image.proofs.Decide.{eq-or-ne, lt-or-ge}
 use Rattle.image.proofs.Text.{less-same, less-differs}

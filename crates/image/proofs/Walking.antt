@@ -10,8 +10,8 @@ use lib.ListN.{getD, set}
 use Rattle.image.specs.Pick.{pick}
 use Rattle.image.specs.Maxima.{maxNodes, maxNames, maxDepth}
 use Rattle.image.specs.Node.{kindOf, nameOf, endOf}
-use Rattle.image.specs.Digits.{familyOf, nextState, kindFacts, fieldsOk, Rooted, Lent}
-use Rattle.image.specs.Steps.{childOk, begun, ascended, Roomy, Passed, Opened, Stepped}
+use Rattle.image.specs.Digits.{familyOf, nextState, kindFacts, fieldsOk, Rooted, WalkTables}
+use Rattle.image.specs.Steps.{childOk, begun, ascended, Roomy, Passed, Opened, Further}
 use Rattle.image.specs.Tree.{treeOk, depthOk, usedIn}
 use Rattle.image.specs.declared.nodes.Position.{Position}
 use Rattle.image.proofs.Digits.{facts-family, facts-row}
@@ -45,7 +45,7 @@ module _ (nodes names text : List ℕ) (n m : ℕ) where
   own-cell : m ≤ maxNames → (i : ℕ) (r : List Bool) → true ≡ fieldsOk nodes names text m i → Marked nodes i r → Marked nodes (i + 1) (set r (nameOf nodes i) true)
   own-cell h i r f M = marked-set nodes i r M (nameOf nodes i) (sym (cell-own (nameOf nodes i) (fields-small nodes names text m i h f)))
 
-  pub begins : m ≤ maxNames → Rooted nodes names text n m → {ps es : List ℕ} {marks : List Bool} → Lent nodes ps es marks → Walking ps es marks (begun n)
+  pub begins : m ≤ maxNames → Rooted nodes names text n m → {ps es : List ℕ} {marks : List Bool} → WalkTables nodes ps es marks → Walking ps es marks (begun n)
   begins h R {ps} {es} {marks} L =
       record {
         pending = open-starts nodes names text n m R ps es (L .states-long) (L .ends-long);
@@ -87,7 +87,7 @@ module _ (nodes names text : List ℕ) (n m : ℕ) where
       inner = let b = before-end nodes names text n m (W .pending) inside in let h = bounds in let h1 = h .1 in omega arith
 
       -- a step leaves less of the walk
-      pub nearer : {after row to : ℕ} {ps′ es′ : List ℕ} {r : Position} → Stepped after row to ps es ps′ es′ p r → 2 * (n - r .at) + r .depth < 2 * (n - p .at) + p .depth
+      pub nearer : {after row to : ℕ} {ps′ es′ : List ℕ} {r : Position} → Further after row to ps es ps′ es′ p r → 2 * (n - r .at) + r .depth < 2 * (n - p .at) + p .depth
       nearer {after} {row} {to} {ps′} {es′} {r} =
           let b = inner in
           ⊎-elim
@@ -121,7 +121,7 @@ module _ (nodes names text : List ℕ) (n m : ℕ) where
             marked-on : Marked nodes (p .at + 1) (set marks (nameOf nodes (p .at)) true)
             marked-on = own-cell names-few (p .at) marks fields (W .marked)
 
-            pub steps : {ps′ es′ : List ℕ} {marks′ : List Bool} {r : Position} → marks′ ≡ set marks (nameOf nodes (p .at)) true → Stepped after (of / 64) to ps es ps′ es′ p r → Walking ps′ es′ marks′ r
+            pub steps : {ps′ es′ : List ℕ} {marks′ : List Bool} {r : Position} → marks′ ≡ set marks (nameOf nodes (p .at)) true → Further after (of / 64) to ps es ps′ es′ p r → Walking ps′ es′ marks′ r
             steps {ps′} {es′} {marks′} {r} put =
                 let O = W .pending in
                 let N = O .nested in

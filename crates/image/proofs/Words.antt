@@ -11,7 +11,7 @@ use lib.Dec.{ltb, leb, eqb}
 use lib.ListN.{length, getD, drop, length-take, length-drop}
 use lib.Seq.{getD-take, getD-drop}
 use Rattle.image.specs.Pick.{pick, both, every}
-use Rattle.image.specs.Digits.{words}
+use Rattle.image.specs.Bytes.{allWords}
 use Rattle.image.specs.Text.{classOf, wordAt, formOf, slice, offOf, namesOk}
 use Rattle.image.proofs.Decide.{lt-or-ge}
 use Rattle.image.proofs.Every.{both-left, both-right, every-next, every-so, every-at}
@@ -42,8 +42,8 @@ module _ (t : List ℕ) (a b : ℕ) (l : a < b) (h : b ≤ length t) where
   unfolding wordAt
   part-word i g = ap (λ (x : ℕ). leb 1 (classOf x)) (getD-take (b - a) (drop a t) i 0 g ∙ getD-drop a t i 0)
 
-  pub part-form : words t ≡ true → 1 ≤ formOf (slice t a b)
-  unfolding words wordAt
+  pub part-form : allWords t ≡ true → 1 ≤ formOf (slice t a b)
+  unfolding allWords wordAt
   part-form w =
       let n = part-long in
       let e = every-so (wordAt (slice t a b)) (length (slice t a b)) (λ k g. part-word k (omega arith) ∙ every-at (wordAt t) (length t) (a + k) w (omega arith)) in
@@ -71,8 +71,8 @@ tiled off P (suc m) z f j l =
     (lt-or-ge j (off m))
 
 module _ (names text : List ℕ) (m : ℕ) where
-  named-words : namesOk names text m ≡ true → words text ≡ true
-  unfolding words
+  named-words : namesOk names text m ≡ true → allWords text ≡ true
+  unfolding allWords
   named-words t =
       let z = eqb-true (offOf names 0) 0 (both-left _ _ t) in
       let e = eqb-true (offOf names m) (length text) (both-left _ _ (both-right (eqb (offOf names 0) 0) _ t)) in
@@ -85,7 +85,7 @@ module _ (names text : List ℕ) (m : ℕ) where
           part-words text (offOf names n) (offOf names (n + 1)) (a .0) (a .1) (a .2) j g k
 
   -- so where some byte is of no class, the names are not in order
-  pub names-other : words text ≡ false → namesOk names text m ≡ false
+  pub names-other : allWords text ≡ false → namesOk names text m ≡ false
   names-other w = go (namesOk names text m) refl
     where
       go : (b : Bool) → namesOk names text m ≡ b → b ≡ false

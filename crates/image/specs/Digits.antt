@@ -5,12 +5,11 @@ use mathlib.Core.Path.{_≡_}
 use mathlib.Core.List.{List, [], _∷_, _++_}
 use mathlib.Core.Bool.{Bool, true, false}
 use lib.Dec.{ltb, leb, eqb}
-use lib.ListN.{length, getD, set, replicate, drop}
+use lib.ListN.{length, getD, set, replicate}
 use Rattle.image.specs.Maxima.{maxNodes, maxNames}
-use Rattle.image.specs.Pick.{pick, both, every}
-use Rattle.image.specs.Node.{half, fullWord, kindOf, nameOf, endOf}
+use Rattle.image.specs.Pick.{pick, both}
+use Rattle.image.specs.Node.{half, kindOf, nameOf, endOf}
 use Rattle.image.specs.Table.{Family, Names, Items, FieldDecls, EventParameters, Stmts, Clauses, Parameters, Types, IntLits, MofNs, Durations, Expressions, _or_, NoKind, Part, one-of, maybe-of, any-of, rows}
-use Rattle.image.specs.Text.{wordAt, less}
 use Rattle.image.specs.Tree.{carries, nameFits}
 
 -- the numbers of the families that a part asks for: the first and the last of them
@@ -182,13 +181,13 @@ places =
     ∷ []
 
 -- the number, counted from s, of the first of the places at which a row has the rest r
-abbrev pub numberIn : List ℕ → List ℕ → ℕ → ℕ
-numberIn r [] s = 0
-numberIn r (p ∷ ps) s = pick (sameParts (restFrom 5 p) r) s (numberIn r ps (s + 1))
+abbrev pub stateIn : List ℕ → List ℕ → ℕ → ℕ
+stateIn r [] s = 0
+stateIn r (p ∷ ps) s = pick (sameParts (restFrom 5 p) r) s (stateIn r ps (s + 1))
 
 abbrev pub statesFrom : ℕ → ℕ → List ℕ
 statesFrom zero q = []
-statesFrom (suc n) q = numberIn (restFrom 5 q) places 0 ∷ statesFrom n (q + 1)
+statesFrom (suc n) q = stateIn (restFrom 5 q) places 0 ∷ statesFrom n (q + 1)
 
 -- the state of each place
 unfoldable pub states : List ℕ
@@ -251,7 +250,7 @@ pub record Rooted (nodes names text : List ℕ) (n m : ℕ) : Type 0 where
   pub fields : fieldsOk nodes names text m 0 ≡ true
 
 -- what the walk over the nodes is lent: two tables with a cell for each node, and the marks of the names, on which node 0 has left its own
-pub record Lent (nodes ps es : List ℕ) (marks : List Bool) : Type 0 where
+pub record WalkTables (nodes ps es : List ℕ) (marks : List Bool) : Type 0 where
   pub states-long : length ps ≡ maxNodes
   pub ends-long : length es ≡ maxNodes
   pub fresh : marks ≡ set (replicate (maxNames + 1) false) (nameOf nodes 0) true
@@ -259,18 +258,3 @@ pub record Lent (nodes ps es : List ℕ) (marks : List Bool) : Type 0 where
 -- the mark of the name at place k
 unfoldable pub markAt : List Bool → ℕ → Bool
 markAt marks k = getD marks (k + 1) false
-
--- every byte of the text is of a class
-unfoldable pub words : List ℕ → Bool
-words t = every (wordAt t) (length t)
-
--- four bytes from k on as one number, the first one highest
-abbrev pub fourOf : List ℕ → ℕ → ℕ
-fourOf s k = 256 * (256 * (256 * getD s k 0 + getD s (k + 1) 0) + getD s (k + 2) 0) + getD s (k + 3) 0
-
--- the first k bytes of two texts are the same, so what follows decides which is before the other; and where both have four more, these differ
-pub record Alike (t u : List ℕ) (k : ℕ) : Type 0 where
-  pub in-first : k ≤ length t
-  pub in-second : k ≤ length u
-  pub rests : less t u ≡ less (drop k t) (drop k u)
-  pub differ : k + 4 ≤ length t → k + 4 ≤ length u → fullWord t k ≡ fullWord u k → ⊥

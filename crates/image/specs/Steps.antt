@@ -61,5 +61,5 @@ pub record Opened (after row to : ℕ) (ps es ps′ es′ : List ℕ) (p r : Pos
   pub put-end : es′ ≡ set es (p .depth) (p .end)
 
 -- one node further
-abbrev pub Stepped : ℕ → ℕ → ℕ → List ℕ → List ℕ → List ℕ → List ℕ → Position → Position → Type 0
-Stepped after row to ps es ps′ es′ p r = Passed after row to ps es ps′ es′ p r ⊎ Opened after row to ps es ps′ es′ p r
+abbrev pub Further : ℕ → ℕ → ℕ → List ℕ → List ℕ → List ℕ → List ℕ → Position → Position → Type 0
+Further after row to ps es ps′ es′ p r = Passed after row to ps es ps′ es′ p r ⊎ Opened after row to ps es ps′ es′ p r

@@ -10,7 +10,7 @@ ghost use mathlib.Core.Bool.{true};
 ghost use lib.ListN.{length};
 ghost use lib.Dec.{ltb, leb};
 ghost use Rattle.image.specs.Pick.{pick, among};
-ghost use Rattle.image.specs.Digits.{words, Alike, fourOf};
+ghost use Rattle.image.specs.Bytes.{allWords, Alike, fourOf};
 ghost use Rattle.image.specs.Text.{classOf, less, nameAt, namesOk};
 
 // Whether b is one of the bytes from low to high.
@@ -48,7 +48,7 @@ fn lower(c: u8, d: u8) -> u8
 
 // The lowest class of a byte of the text (2 where it has none): 0 if one of them is of no class.
 fn lowest(t: &[u8]) -> u8
-    ensures { λ r. ⌜ leb 1 r ≡ words (now (t .entry)) ⌝ }
+    ensures { λ r. ⌜ leb 1 r ≡ allWords (now (t .entry)) ⌝ }
 {
     let mut low = 2;
     let mut k = 0;
@@ -99,7 +99,7 @@ fn rises(t: &[u8], u: &[u8]) -> bool
 
 // Whether the name from a up to b, in a text whose bytes are all of a class, is in order after the one from p up to a.
 fn name_ok(text: &[u8], p: usize, a: usize, b: usize) -> bool
-    requires { ⌜ (p ≤ a) × (a ≤ length (now text)) × (words (now text) ≡ true) ⌝ }
+    requires { ⌜ (p ≤ a) × (a ≤ length (now text)) × (allWords (now text) ≡ true) ⌝ }
     ensures { λ r. ⌜ r ≡ nameAt (now (text .entry)) p a b ⌝ }
 {
     if b <= a {

@@ -6,7 +6,9 @@ use super::kind;
 use super::name;
 use super::offset;
 use super::table::KINDS;
+use super::table::Kinds;
 use super::table::MAY_END;
+use super::table::Nexts;
 use super::table::ROW;
 use super::table::START;
 use super::table::TEXT;
@@ -22,8 +24,8 @@ ghost use lib.Dec.{ltb, eqb};
 ghost use Rattle.image.specs.Pick.{pick, every};
 ghost use Rattle.image.specs.Maxima.{maxNodes, maxNames, maxDepth};
 ghost use Rattle.image.specs.Node.{half, kindOf, nameOf};
-ghost use Rattle.image.specs.Digits.{Rooted, Lent, markAt, nextStates, kindFacts, kindTable, fieldsOk};
-ghost use Rattle.image.specs.Steps.{rootOk, childOk, begun, ascended, passed, Roomy, Opened, Stepped};
+ghost use Rattle.image.specs.Digits.{Rooted, WalkTables, markAt, nextStates, kindFacts, kindTable, fieldsOk};
+ghost use Rattle.image.specs.Steps.{rootOk, childOk, begun, ascended, passed, Roomy, Opened, Further};
 ghost use Rattle.image.specs.Text.{namesOk};
 ghost use Rattle.image.specs.Tree.{carries, nameFits, nodeOk, treeOk, depthOk, usedIn};
 
@@ -172,7 +174,7 @@ fn on(
     ends: &mut [u16; Image::NODES],
 ) -> Position
     requires { ⌜ Roomy p after ⌝ }
-    ensures { λ r. ⌜ Stepped after row to (now (states .entry)) (now (ends .entry)) (now (states .exit)) (now (ends .exit)) p r ⌝ }
+    ensures { λ r. ⌜ Further after row to (now (states .entry)) (now (ends .entry)) (now (states .exit)) (now (ends .exit)) p r ⌝ }
 {
     if p.at + 1 < to {
         return down(p, after, row, to, states, ends);
@@ -209,8 +211,8 @@ fn mark(nodes: &[u8], i: usize, marks: &mut [bool; Image::NAMES + 1])
 
 // Refusals 6 and 7, given what was seen of node 0, and a mark for each name that a node has: one walk over the nodes, with the ancestors of the open node on a stack.
 fn walk(
-    kinds: &[usize; 46],
-    nexts: &[u8; 496],
+    kinds: &Kinds,
+    nexts: &Nexts,
     nodes: &[u8],
     names: &[u8],
     text: &[u8],
@@ -220,7 +222,7 @@ fn walk(
     ends: &mut [u16; Image::NODES],
     marks: &mut [bool; Image::NAMES + 1],
 ) -> usize
-    requires { ⌜ (n ≤ maxNodes) × (m ≤ maxNames) × (16 * n ≤ length (now nodes)) × (2 * m + 2 ≤ length (now names)) × (namesOk (now names) (now text) m ≡ true) × (now kinds ≡ kindTable) × (now nexts ≡ nextStates) × Rooted (now nodes) (now names) (now text) n m × Lent (now nodes) (now states) (now ends) (now marks) ⌝ }
+    requires { ⌜ (n ≤ maxNodes) × (m ≤ maxNames) × (16 * n ≤ length (now nodes)) × (2 * m + 2 ≤ length (now names)) × (namesOk (now names) (now text) m ≡ true) × (now kinds ≡ kindTable) × (now nexts ≡ nextStates) × Rooted (now nodes) (now names) (now text) n m × WalkTables (now nodes) (now states) (now ends) (now marks) ⌝ }
     ensures { λ r. ⌜ r ≡ pick (every (nodeOk (now (nodes .entry)) (now (names .entry)) (now (text .entry)) n m) n) (pick (depthOk (now (nodes .entry)) n) 0 7) 6 ⌝ }
     ensures { λ r. ⌜ (r ≡ 0 → (k : ℕ) → k < maxNames → getD (now (marks .exit)) (k + 1) false ≡ usedIn (now (nodes .entry)) n k) ⌝ }
 {
@@ -247,7 +249,7 @@ fn walk(
 }
 
 // Whether node 0 is the contract, ends at n, and has its fields in order.
-fn root_ok(kinds: &[usize; 46], nodes: &[u8], names: &[u8], text: &[u8], n: usize, m: usize) -> bool
+fn root_ok(kinds: &Kinds, nodes: &[u8], names: &[u8], text: &[u8], n: usize, m: usize) -> bool
     requires { ⌜ (16 ≤ length (now nodes)) × (2 * m + 2 ≤ length (now names)) × (namesOk (now names) (now text) m ≡ true) × (now kinds ≡ kindTable) ⌝ }
     ensures { λ r. ⌜ r ≡ rootOk (now (nodes .entry)) (now (names .entry)) (now (text .entry)) n m ⌝ }
 {

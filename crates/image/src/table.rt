@@ -31,7 +31,7 @@ const EXPRESSION: usize = 12;
 // 1
 const CONTRACT: usize = 13;
 
-// One number for each kind: its family, plus the form of the text that it carries, plus the state that its row starts in.
+// One number for each kind: its family, of which there are 16 numbers, plus the form of the text that it carries, plus the state that its row starts in.
 pub const TEXT: usize = 16;
 
 pub const ROW: usize = 64;
@@ -104,13 +104,21 @@ const CLAUSES_STATEMENTS: usize = 29;
 
 const SIGNER: usize = 30;
 
+const STATES: usize = 31;
+
+// For each state, the one after a child of each of 16 families.
+pub type Nexts = [u8; TEXT * STATES];
+
+// One number for each kind.
+pub type Kinds = [usize; 46];
+
 // The state of the contract, before its first child.
 pub const START: usize = NAME_ITEMS;
 
 const NO_KIND: usize = 0;
 
 // Document 01's table of children, with the family and the text of each kind. It is copied into a local once for an image, and lent.
-pub const KINDS: [usize; 46] = [
+pub const KINDS: Kinds = [
     NO_KIND,
     // 1 Contract
     CONTRACT + ROW * NAME_ITEMS,
@@ -191,15 +199,15 @@ pub const KINDS: [usize; 46] = [
 ];
 
 // A child of family f leads from state s to another.
-fn leads(t: &mut [u8; 496], s: usize, f: usize, to: usize)
+fn leads(t: &mut Nexts, s: usize, f: usize, to: usize)
     requires { ⌜ (s < 31) × (f < 16) × (to < 31) ⌝ }
     ensures { λ _. ⌜ Leads (now (t .entry)) (now (t .exit)) s f to ⌝ }
 {
-    t[16 * s + f] = to as u8;
+    t[TEXT * s + f] = to as u8;
 }
 
 // Declarations: the rows of kinds 1 to 8.
-fn declarations(t: &mut [u8; 496])
+fn declarations(t: &mut Nexts)
     requires { ⌜ now t ≡ laidBelow 1 ⌝ }
     ensures { λ _. ⌜ now (t .exit) ≡ laidBelow 9 ⌝ }
 {
@@ -217,7 +225,7 @@ fn declarations(t: &mut [u8; 496])
 }
 
 // Entries and their parameters, 9 and 10.
-fn entries(t: &mut [u8; 496])
+fn entries(t: &mut Nexts)
     requires { ⌜ now t ≡ laidBelow 9 ⌝ }
     ensures { λ _. ⌜ now (t .exit) ≡ laidBelow 11 ⌝ }
 {
@@ -243,7 +251,7 @@ fn entries(t: &mut [u8; 496])
 }
 
 // Types and their arguments, 11 to 13.
-fn types(t: &mut [u8; 496])
+fn types(t: &mut Nexts)
     requires { ⌜ now t ≡ laidBelow 11 ⌝ }
     ensures { λ _. ⌜ now (t .exit) ≡ laidBelow 14 ⌝ }
 {
@@ -256,7 +264,7 @@ fn types(t: &mut [u8; 496])
 }
 
 // Clauses, statements and expressions, 14 to 45.
-fn bodies(t: &mut [u8; 496])
+fn bodies(t: &mut Nexts)
     requires { ⌜ now t ≡ laidBelow 14 ⌝ }
     ensures { λ _. ⌜ now (t .exit) ≡ laidBelow 46 ⌝ }
 {
@@ -272,10 +280,10 @@ fn bodies(t: &mut [u8; 496])
 }
 
 // For each state, the one after a child of each family, 0 to 15; a family that does not fit leads to 0. It is made once for an image, and lent.
-pub fn transitions() -> [u8; 496]
+pub fn transitions() -> Nexts
     ensures { λ r. ⌜ r ≡ nextStates ⌝ }
 {
-    let mut t = [0u8; 496];
+    let mut t = [0u8; TEXT * STATES];
     declarations(&mut t);
     entries(&mut t);
     types(&mut t);
@@ -284,7 +292,7 @@ pub fn transitions() -> [u8; 496]
 }
 
 // What the table holds of kind k.
-pub fn facts(kinds: &[usize; 46], k: usize) -> usize
+pub fn facts(kinds: &Kinds, k: usize) -> usize
     requires { ⌜ now kinds ≡ kindTable ⌝ }
     ensures { λ r. ⌜ r ≡ kindFacts k ⌝ }
 {
@@ -292,9 +300,9 @@ pub fn facts(kinds: &[usize; 46], k: usize) -> usize
 }
 
 // The state of a row after one more child, of family f.
-pub fn next(nexts: &[u8; 496], s: usize, f: usize) -> usize
+pub fn next(nexts: &Nexts, s: usize, f: usize) -> usize
     requires { ⌜ (s < 31) × (f < 16) × (now nexts ≡ nextStates) ⌝ }
     ensures { λ r. ⌜ (r ≡ nextState s f) × (r < 31) ⌝ }
 {
-    wide(nexts[16 * s + f])
+    wide(nexts[TEXT * s + f])
 }

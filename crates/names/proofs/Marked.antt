@@ -5,6 +5,7 @@ use mathlib.Core.Bool.{Bool, true}
 use mathlib.Core.List.{List}
 use native.Mathlib.Omega.{arith}
 use lib.ListN.{set}
+use Rattle.image.specs.Maxima.{maxNames}
 use Rattle.image.specs.Admit.{refusal}
 use Rattle.image.proofs.Given.{given}
 use Rattle.rules.specs.Sweep.{either, same}
@@ -15,7 +16,7 @@ use Rattle.nodes.proofs.Names.{same-not, marks-as, marks-set, either-false}
 use Rattle.names.specs.Found.{Numbered}
 
 -- an image has 1,024 names at most
-pub number-small : {s w : List ℕ} {x : ℕ} → refusal s ≡ 0 → Numbered s w x → x ≤ 1024
+pub number-small : {s w : List ℕ} {x : ℕ} → refusal s ≡ 0 → Numbered s w x → x ≤ maxNames
 number-small {s} e N = let m = given s e .header .names in let h = N .high in omega arith
 
 same-sym : (v w : List ℕ) → same v w ≡ same w v

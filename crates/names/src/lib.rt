@@ -5,6 +5,7 @@ ghost use mathlib.Core.Path.{_≡_};
 ghost use mathlib.Core.Bool.{Bool};
 ghost use mathlib.Core.List.{List};
 ghost use Prim.Native.Nat.{ℕ, _+_, _<_, _≤_};
+ghost use Rattle.image.specs.Maxima.{maxNames};
 ghost use Rattle.rules.specs.Sweep.{same};
 ghost use Rattle.records.specs.Words.{old, new};
 ghost use Rattle.nodes.specs.Shown.{View, Worded, Admitted, treeOf, word};
@@ -77,7 +78,7 @@ pub fn number_of(image: &[u8], head: Image, word: &[u8]) -> usize
 
 // The mark of the word of this number; none where it is 0, since then no name of the image is this word.
 pub fn mark_number(number: usize, marks: &mut Marks)
-    requires { ⌜ number ≤ 1024 ⌝ }
+    requires { ⌜ number ≤ maxNames ⌝ }
     ensures { λ _. ⌜ MarksNumber number marks ⌝ }
 {
     if 0 < number {

@@ -1,20 +1,19 @@
 -- A loop that changes a table by a walk over the nodes of some kinds below a node: what the walk leaves out has none of these kinds.
 use Prim.Native.Nat.{ℕ, _+_, _<_, _≤_}
 use mathlib.Core.Path.{_≡_, refl, ap}
-use mathlib.Core.Bool.{Bool, true, false}
+use mathlib.Core.Bool.{Bool, false}
 use mathlib.Core.List.{List}
 use native.Mathlib.Omega.{arith}
 use Rattle.rules.specs.Sweep.{also, has}
-use Rattle.rules.specs.Standing.{parts}
 use Rattle.rules.specs.Vocabulary.{someBelow}
 use Rattle.nodes.specs.Shown.{View, In, treeOf}
 use Rattle.nodes.specs.Table.{Changed}
 use Rattle.nodes.specs.Marks.{marking, Turned}
-use Rattle.nodes.proofs.Shapes.{allIn, within}
+use Rattle.nodes.proofs.Shapes.{within}
 use Rattle.nodes.proofs.Spans.{Span, span-below}
 use Rattle.nodes.proofs.Folding.{Folding, folding-starts, folding-on}
 use Rattle.nodes.proofs.Marking.{marking-none, marking-done, marks-below}
-use Rattle.nodes.proofs.Walks.{Next, parts-on}
+use Rattle.nodes.proofs.Walks.{Next}
 
 -- whichever x the nodes are seen by, each node of kind ks from a on up to p has made its change to the marks of the words that G finds there
 module _ {A B : Type 0} (d : A) (step : B → A → Bool → ℕ → A) (b : B) {X : Type 0} {part : List ℕ} {base : ℕ} (view : X → View part base) (ks : List ℕ) (G : X → List ℕ → ℕ → Bool) where
@@ -36,17 +35,6 @@ module _ {A B : Type 0} {d : A} {step : B → A → Bool → ℕ → A} {b : B} 
 
       pub walk-on : {r′ : List A} → Changed d (λ x. view x .image) (λ x w v. step b v (at-kind d step b view ks G x w p) p) r r′ → Walked d step b view ks G a to r₀ r′ q
       walk-on f = record { span = m .span; fold = folding-on (m .fold) f (walk-moves .0) (walk-moves .1) (λ y w j g c. ap (λ (b : Bool). also b (G y w) j) (N y .none j g c)) }
-
-    -- from child to child of an item: no part of it is left out
-    module _ (al : allIn ks parts ≡ true) (z : 0 < a) {r₀ r : List A} {p q : ℕ} (m : Walked d step b view ks G a to r₀ r p) (l : p < to) (f : (W : View part base) → q ≡ treeOf W .end p) where
-      child-next : (y : X) → Next (view y) ks p q
-      child-next y = let g = m .fold .low in let d = e (view y) in parts-on (view y) (within (view y) i (omega arith) (omega arith)) ks al i z (omega arith) (omega arith) (f (view y))
-
-      pub parts-move : (p < q) × (q ≤ to)
-      parts-move = walk-moves m l child-next
-
-      pub parts-walk : {r′ : List A} → Changed d (λ x. view x .image) (λ x w v. step b v (at-kind d step b view ks G x w p) p) r r′ → Walked d step b view ks G a to r₀ r′ q
-      parts-walk n = walk-on m l child-next n
 
 -- a walk that marks has marked what stands below its node
 abbrev pub Walking : Bool → {X : Type 0} {part : List ℕ} {base : ℕ} → (X → View part base) → List ℕ → (X → List ℕ → ℕ → Bool) → ℕ → ℕ → List Bool → List Bool → ℕ → Type 0

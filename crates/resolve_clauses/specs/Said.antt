@@ -90,8 +90,8 @@ told F nodes base marks T = F (T .says) (treeOf (T .view))
 abbrev pub deployed : (Tree → List Rec) → (nodes : Lent (List ℕ)) (base : ℕ) (marks : Lent (List Bool)) → Deployed (old nodes) base (old marks) → List Rec
 deployed F nodes base marks T = F (treeOf (T .view))
 
-abbrev pub numbered : (Tree → List Rec) → (nodes : Lent (List ℕ)) (number : ℕ) → DeployerIs (old nodes) number → List Rec
-numbered F nodes number T = F (treeOf (T .view))
+abbrev pub byDeployer : (Tree → List Rec) → (nodes : Lent (List ℕ)) (number : ℕ) → DeployerIs (old nodes) number → List Rec
+byDeployer F nodes number T = F (treeOf (T .view))
 
 abbrev pub listed : (Tree → List Rec) → (nodes : Lent (List ℕ)) (state declared known : Lent (List Bool)) → AssetMarks (old nodes) (old state) (old declared) (old known) → List Rec
 listed F nodes state declared known T = F (treeOf (T .view))

@@ -31,7 +31,7 @@ ghost use Rattle.nodes.specs.Marks.{Marks};
 ghost use Rattle.nodes.specs.First.{Head};
 ghost use Rattle.nodes.specs.State.{State, seen};
 ghost use Rattle.nodes.specs.Span.{Span};
-ghost use Rattle.resolve_clauses.specs.Said.{OneTable, CarriesWord, Deployed, DeployerIs, AssetMarks, told, deployed, numbered, listed, atWord, atNode, atSigner, identRules, IsEntry, clause32, item32, at33, clauseRules, clause36};
+ghost use Rattle.resolve_clauses.specs.Said.{OneTable, CarriesWord, Deployed, DeployerIs, AssetMarks, told, deployed, byDeployer, listed, atWord, atNode, atSigner, identRules, IsEntry, clause32, item32, at33, clauseRules, clause36};
 
 // A rule about words: kind, on, code. At a node of this kind whose word is marked, or (off) is not, it finds its code.
 pub struct Rule(pub usize, pub bool, pub u16);
@@ -235,7 +235,7 @@ fn items32(nodes: &[u8], deployer: &Marks, out: &mut [u16], count: usize) -> usi
 // 32, `deployer`, which has this number; nothing where that is 0, since then no name of the image is this word.
 pub fn group32(nodes: &[u8], number: usize, out: &mut [u16], count: usize) -> usize
     requires { ⌜ DeployerIs (now nodes) number × In (now nodes) 0 0 × (count < 2 ^ 40) ⌝ }
-    ensures { λ r. ⌜ Adds (numbered group32 nodes number) (2 ^ 34) out count r ⌝ }
+    ensures { λ r. ⌜ Adds (byDeployer group32 nodes number) (2 ^ 34) out count r ⌝ }
 {
     if number == 0 {
         return count;

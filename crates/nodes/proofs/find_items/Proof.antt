@@ -2,32 +2,28 @@
 use borrow.Author.Needs.{needs}
 use native.Mathlib.Omega.{arith}
 use Prim.Native.Nat.{_-_, _<_, _≤_}
-use mathlib.Core.Path.{_≡_, refl}
-use mathlib.Core.Bool.{false}
-use native.Mathlib.Omega.{arith}
-use mathlib.Core.Path.{_≡_, refl}
-use mathlib.Core.Bool.{false}
-use Prim.Native.Nat.{_-_, _<_, _≤_}
+use mathlib.Core.Path.{_≡_, refl, sym}
+use mathlib.Core.Bool.{true, false, true≢false}
 use Rattle.rules.specs.Sweep.{has}
 use Rattle.rules.specs.Tree.{event, genesis}
 use Rattle.nodes.specs.Shown.{View, In, treeOf}
-use Rattle.nodes.specs.Items.{NoneUpTo}
+use Rattle.nodes.specs.Items.{NoneUpTo, SomeUpTo}
 use Rattle.nodes.proofs.Parts.{past}
 use Rattle.nodes.proofs.Shapes.{within}
 use Rattle.nodes.proofs.Spans.{child-on}
 use Rattle.nodes.proofs.Cursors.{Over, before-last, past-last, stands, still-over, on-to}
-use Rattle.nodes.proofs.Glance.{glanced}
+use Rattle.nodes.proofs.Glance.{glanced, glanced-some, within-end}
 use Rattle.nodes.proofs.find_items.Statement.{statement}
 use Rattle.nodes.proofs.find_items.Tie as tie
 
 abbrev Inv-loop : tie.InvT-loop
-Inv-loop nodes to items₀ children₀ items children = Over 0 to children × (1 ≤ children .at) × (children .at ≤ to) × (items .event ≡ false → (W : View nodes 0) → NoneUpTo (treeOf W) event (children .at)) × (items .genesis ≡ false → (W : View nodes 0) → NoneUpTo (treeOf W) genesis (children .at))
+Inv-loop nodes to items₀ children₀ items children = Over 0 to children × (1 ≤ children .at) × (children .at ≤ to) × (items .event ≡ false → (W : View nodes 0) → NoneUpTo (treeOf W) event (children .at)) × (items .genesis ≡ false → (W : View nodes 0) → NoneUpTo (treeOf W) genesis (children .at)) × (items .event ≡ true → (W : View nodes 0) → SomeUpTo (treeOf W) event (children .at)) × (items .genesis ≡ true → (W : View nodes 0) → SomeUpTo (treeOf W) genesis (children .at))
 
 abbrev μ-loop : tie.MeasureT-loop
 μ-loop nodes to items₀ children₀ items children = to - children .at
 
 loop-holds : tie.Need-loop-holds Inv-loop μ-loop
-loop-holds c = let W = c .before .before .pre .0 in let e = c .end .ensures W in let p = past W (c .before .before .pre .1) in (record { part = refl; last = refl }, omega arith, omega arith, (λ z Y i l h. absurd (omega arith)), (λ z Y i l h. absurd (omega arith)))
+loop-holds c = let W = c .before .before .pre .0 in let e = c .end .ensures W in let p = past W (c .before .before .pre .1) in (record { part = refl; last = refl }, omega arith, omega arith, (λ z Y i l h. absurd (omega arith)), (λ z Y i l h. absurd (omega arith)), (λ z. absurd (true≢false (sym z))), (λ z. absurd (true≢false (sym z))))
 
 -- the item at hand stands in the part, and the next one behind it
 
@@ -59,10 +55,12 @@ loop-again c =
       m .1,
       (λ z W. glanced 5 refl _ (c .before .before .with-item .ensures .0) h (omega arith) W (c .before .before .before .kind .ensures W) (λ y. i .3 y W) (on W) z),
       (λ z W. glanced 7 refl _ (c .before .before .with-item .ensures .1) h (omega arith) W (c .before .before .before .kind .ensures W) (λ y. i .4 y W) (on W) z),
+      (λ z W. glanced-some 5 _ (c .before .before .with-item .ensures .0) (omega arith) W (c .before .before .before .kind .ensures W) (λ y. i .5 y W) (m .0) z),
+      (λ z W. glanced-some 7 _ (c .before .before .with-item .ensures .1) (omega arith) W (c .before .before .before .kind .ensures W) (λ y. i .6 y W) (m .0) z),
     )
 
 returns : tie.Need-returns Inv-loop μ-loop
-returns c = let i = c .before .before .loop .inv in let l = past-last (i .0) (c .if1 .left) in record { no-event = λ z W j a b. let e = c .before .before .before .end .ensures W in i .3 z W j a (omega arith); no-genesis = λ z W j a b. let e = c .before .before .before .end .ensures W in i .4 z W j a (omega arith) }
+returns c = let i = c .before .before .loop .inv in let l = past-last (i .0) (c .if1 .left) in record { no-event = λ z W j a b. let e = c .before .before .before .end .ensures W in i .3 z W j a (omega arith); no-genesis = λ z W j a b. let e = c .before .before .before .end .ensures W in i .4 z W j a (omega arith); some-event = λ z W. within-end (treeOf W) event (c .before .before .before .end .ensures W) (i .2) (i .5 z W); some-genesis = λ z W. within-end (treeOf W) genesis (c .before .before .before .end .ensures W) (i .2) (i .6 z W) }
 
 pub find-items-spec : {M : Type 1} → statement M
 find-items-spec = tie.close (tie.spec Inv-loop μ-loop (λ c κs. search needs) loop-holds kind-requires (λ c κs. search needs) step-requires loop-less loop-again returns)

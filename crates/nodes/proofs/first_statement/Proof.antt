@@ -3,9 +3,6 @@ use borrow.Author.Needs.{needs}
 use native.Mathlib.Omega.{arith}
 use Prim.Native.Nat.{ℕ, _+_, _-_, _<_, _≤_}
 use mathlib.Core.Path.{_≡_, refl, sym, ap, _∙_}
-use native.Mathlib.Omega.{arith}
-use mathlib.Core.Path.{_≡_, refl, _∙_, sym, ap}
-use Prim.Native.Nat.{ℕ, _+_, _-_, _<_, _≤_}
 use Rattle.rules.specs.Sweep.{has}
 use Rattle.rules.specs.Tree.{statement as statements}
 use Rattle.nodes.specs.Shown.{View, treeOf}

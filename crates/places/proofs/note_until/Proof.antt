@@ -4,10 +4,6 @@ use native.Mathlib.Omega.{arith}
 use Prim.Native.Nat.{_-_}
 use mathlib.Core.Path.{refl}
 use mathlib.Core.List.{[], _∷_}
-use native.Mathlib.Omega.{arith}
-use Prim.Native.Nat.{_-_}
-use mathlib.Core.Path.{refl}
-use mathlib.Core.List.{[], _∷_}
 use Rattle.nodes.specs.Shown.{View}
 use Rattle.nodes.proofs.Until.{one-end, until-starts, until-moves, until-walks, until-done}
 use Rattle.nodes.proofs.Cursors.{Over, before-last, past-last, still-over, on-to}

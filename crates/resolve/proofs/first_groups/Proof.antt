@@ -3,7 +3,6 @@ use borrow.Author.Needs.{needs}
 use native.Mathlib.Omega.{arith}
 use Prim.Native.Nat.{_≤_, _^_}
 use mathlib.Core.Path.{refl}
-use Prim.Native.Nat.{_^_, _≤_}
 use Rattle.records.proofs.Laws.{added-most, added-by, added-join}
 use Rattle.resolve.proofs.Lent.{by-mint, by-name}
 use Rattle.resolve.proofs.first_groups.Statement.{statement}

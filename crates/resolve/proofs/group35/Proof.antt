@@ -4,7 +4,6 @@ use native.Mathlib.Omega.{arith}
 use Prim.Native.Nat.{_-_, _^_}
 use mathlib.Core.Path.{refl}
 use mathlib.Core.Bool.{false}
-use Prim.Native.Nat.{_^_}
 use Rattle.rules.specs.Sweep.{has}
 use Rattle.rules.specs.Tree.{entry}
 use Rattle.rules.specs.Resolve.{entryRules, group35}

@@ -3,7 +3,6 @@ use borrow.Author.Needs.{needs}
 use native.Mathlib.Omega.{arith}
 use Prim.Native.Nat.{_*_, _^_}
 use mathlib.Core.Path.{refl}
-use Prim.Native.Nat.{_*_, _^_}
 use Rattle.records.proofs.Laws.{added-by}
 use Rattle.nodes.specs.Shown.{treeOf}
 use Rattle.names.specs.Spelled.{Looked}

@@ -6,7 +6,7 @@ use mathlib.Core.Path.{_≡_, sym, ap, _∙_}
 use lib.ListN.{length}
 use lib.Dec.{leb}
 use Rattle.image.specs.Pick.{every}
-use Rattle.image.specs.Digits.{words}
+use Rattle.image.specs.Bytes.{allWords}
 use Rattle.image.specs.Text.{wordAt}
 use Rattle.image.proofs.Every.{every-none}
 use Rattle.image.proofs.Words.{low-more}
@@ -26,7 +26,7 @@ loop-again : tie.Need-loop-again Inv-loop μ-loop
 loop-again c = (search needs, low-more _ _ _ _ _ (c .before .before .before .before .loop .inv .1) (c .before .class .ensures) (c .lower .ensures))
 
 returns : tie.Need-returns Inv-loop μ-loop
-unfolding words
+unfolding allWords
 returns c = let i = c .before .loop .inv in let e : c .before .loop .k ≡ length (c .before .before .before .args .t .now) = omega arith in i .1 ∙ ap (every (wordAt (c .before .before .before .args .t .now))) e
 
 pub lowest-spec : {M : Type 1} → statement M

@@ -1,7 +1,6 @@
 -- `down` meets its contract: the cells of the stack are written.
 use borrow.Author.Needs.{needs}
 use mathlib.Core.Path.{refl}
-use mathlib.Core.Path.{refl}
 use Rattle.image.proofs.nodes.down.Statement.{statement}
 use Rattle.image.proofs.nodes.down.Tie as tie
 

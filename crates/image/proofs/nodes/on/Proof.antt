@@ -3,9 +3,6 @@ use borrow.Author.Needs.{needs}
 use native.Mathlib.Omega.{arith}
 use mathlib.Core.Path.{refl}
 use mathlib.Core.Logic.{inl, inr}
-use native.Mathlib.Omega.{arith}
-use mathlib.Core.Path.{refl}
-use mathlib.Core.Logic.{inl, inr}
 use Rattle.image.proofs.nodes.on.Statement.{statement}
 use Rattle.image.proofs.nodes.on.Tie as tie
 

@@ -1,7 +1,6 @@
 -- `root_ok` meets its contract: the kind, the end, the fields.
 use borrow.Author.Needs.{needs}
 use mathlib.Core.Path.{sym, ap, _∙_}
-use mathlib.Core.Path.{_∙_, sym, ap}
 use borrow.Author.Tests.{eq-eqb, ne-eqb}
 use Rattle.image.specs.Digits.{kindFacts}
 use Rattle.image.proofs.nodes.root_ok.Statement.{statement}

@@ -5,14 +5,8 @@ use Prim.Native.Nat.{ℕ}
 use mathlib.Core.Path.{refl, sym, ap, _∙_}
 use mathlib.Core.Bool.{Bool, true}
 use mathlib.Core.List.{List}
-use lib.ListN.{set}
-use borrow.Author.Tests.{not-true, not-false}
-use native.Mathlib.Omega.{arith}
-use Prim.Native.Nat.{ℕ}
-use mathlib.Core.Path.{refl, _∙_, sym, ap}
-use mathlib.Core.Bool.{Bool, true}
-use mathlib.Core.List.{List}
 use lib.ListN.{set, length-replicate}
+use borrow.Author.Tests.{not-true, not-false}
 use Rattle.image.specs.Node.{nameOf}
 use Rattle.image.specs.Digits.{familyOf, partAt, states, stateOf, kindFacts, kindsFrom, kindTable, Rooted}
 use Rattle.image.specs.Tree.{carries}

@@ -3,9 +3,8 @@ use borrow.Author.Needs.{needs}
 use native.Mathlib.Omega.{arith}
 use Prim.Native.Nat.{ℕ, _-_, _<_, _≤_}
 use mathlib.Core.Path.{_≡_, refl, sym, _∙_}
-use mathlib.Core.Bool.{Bool}
+use mathlib.Core.Bool.{Bool, true≢false}
 use mathlib.Core.List.{List, []}
-use mathlib.Core.Bool.{true≢false}
 use Rattle.rules.specs.Tree.{entry}
 use Rattle.rules.specs.Resolve.{rule23, group23}
 use Rattle.records.proofs.Sweep.{run-below, run-empty}
