@@ -11,7 +11,7 @@ use std::process::{Command, Stdio, exit};
 const ARCHIVE: &str = "libisonkaypu.a";
 /// Beside the archive: the line that `rt version` printed where it was made.
 const KIT: &str = "kit";
-const WHAT_TO_RUN: &str = "`oracle/archive` makes it, on a machine with the Rattle toolchain, and prints its \
+const WHAT_TO_RUN: &str = "`page/isonkaypu-sys/archive` makes it, on a machine with the Rattle toolchain, and prints its \
                            folder, for ISONKAYPU_STATICLIB";
 
 fn main() {
@@ -41,7 +41,7 @@ fn folder() -> Result<PathBuf, String> {
     }
     let member = PathBuf::from(env::var_os("CARGO_MANIFEST_DIR").unwrap_or_default());
     let root = member.join("../..");
-    // `rt` writes archives for x86-64; `oracle/archive` puts those for other processors elsewhere
+    // `rt` writes archives for x86-64; `archive` puts those for other processors elsewhere
     let of_rt = env::var("CARGO_CFG_TARGET_ARCH").is_ok_and(|processor| processor == "x86_64");
     let folder = root.join(if of_rt { "target/staticlib" } else { "target/native/staticlib" });
     if has_archive(&folder) { Ok(folder) } else { made(&root) }
@@ -57,7 +57,7 @@ fn missing(folder: &Path) -> String {
 
 /// Has the repository make the archive, which takes minutes: the folder that it then stands in.
 fn made(root: &Path) -> Result<PathBuf, String> {
-    let script = root.join("oracle/archive");
+    let script = root.join("page/isonkaypu-sys/archive");
     let run = Command::new(&script).stdin(Stdio::null()).stderr(Stdio::inherit()).output();
     let output = run.map_err(|why| format!("{}: {why}\n{WHAT_TO_RUN}", script.display()))?;
     let folder = PathBuf::from(String::from_utf8_lossy(&output.stdout).trim_end());

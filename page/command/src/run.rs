@@ -43,7 +43,14 @@ fn shown(image: &Path, source: Option<&Path>, form: fn(&Subject) -> String) -> R
     let label = label(source.unwrap_or(image));
     let outcome = check_image(&bytes);
     let status = status(&outcome)?;
-    let subject = Subject { label: &label, image: &bytes, source: text.as_deref(), outcome };
+    let subject = match &outcome {
+        Ok(report) => Subject::checked(&label, report),
+        Err(refusal) => Subject::no_image(&label, &bytes, *refusal),
+    };
+    let subject = match &text {
+        Some(text) => subject.with_source(text),
+        None => subject,
+    };
     Ok(Answer { text: form(&subject), status })
 }
 

@@ -53,12 +53,12 @@ const NEVER_CHECKED: [Gap; 2] = [
 
 /// The checks that ran: all three, or none where the image could not be read.
 pub fn checked(subject: &Subject) -> &'static [Check] {
-    if subject.outcome.is_ok() { &CHECKS } else { &[] }
+    if subject.report().is_some() { &CHECKS } else { &[] }
 }
 
 /// What nobody may take for checked: where no check ran, the three checks too.
 pub fn not_checked(subject: &Subject) -> Vec<Gap> {
-    let missed = CHECKS.iter().filter(|_| subject.outcome.is_err());
+    let missed = CHECKS.iter().filter(|_| subject.report().is_none());
     let missed = missed.map(|check| Gap { word: check.word, means: check.looks_at });
     missed.chain(NEVER_CHECKED).collect()
 }

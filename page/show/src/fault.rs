@@ -22,7 +22,8 @@ pub struct Fault {
     /// "entry `issue` changes `issued`, which its `writes` clause does not name"
     pub sentence: String,
     pub here: Mark,
-    pub related: Option<Mark>,
+    /// Other places that the rule speaks of: an earlier declaration, another use.
+    pub others: Vec<Mark>,
     /// How to mend it, in one line.
     pub mend: String,
     /// The entry that it stands in.
@@ -74,7 +75,7 @@ fn fault(entry: &Entry, offence: &Offence, blanks: &Blanks) -> Fault {
         title: entry.title.clone(),
         sentence: blanks.fill(if alone { &entry.alone } else { &entry.fault }),
         here: mark(offence.place, &entry.here),
-        related: offence.related.map(|place| mark(place, &entry.there)),
+        others: offence.related.map(|place| mark(place, &entry.there)).into_iter().collect(),
         mend: blanks.fill(if kept { &entry.kept } else { &entry.mend }),
         entry: blanks.tree.entry_of(offence.place.node).map(|e| text(blanks.tree, e + 1)),
     }

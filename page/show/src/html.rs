@@ -44,7 +44,7 @@ fn head(view: &View) -> String {
          <meta name=\"referrer\" content=\"no-referrer\">\n\
          <title>{}: {}</title>\n<style>\n{STYLE}</style>\n</head>\n",
         banner::title(view),
-        escape::html(view.subject.label)
+        escape::html(view.subject.label())
     )
 }
 
@@ -61,8 +61,8 @@ fn about(subject: &Subject) -> String {
     format!(
         "<footer aria-labelledby=\"about\"><h2 id=\"about\">About this report</h2>\n<dl>{}{}{}{}</dl>\n\
          <details><summary>The raw numbers</summary><pre>{}</pre></details></footer>\n",
-        row("Packed contract (SHA-256)", digest(subject.image)),
-        subject.source.map_or(String::new(), |source| row("Text shown (SHA-256)", digest(source))),
+        subject.image().map_or(String::new(), |image| row("Packed contract (SHA-256)", digest(image))),
+        subject.source().map_or(String::new(), |source| row("Text shown (SHA-256)", digest(source))),
         row("Checker", format!("{TOOL} {VERSION}")),
         row("Proved with", escape::html(isonkaypu::kit())),
         escape::html(&crate::numbers(subject)),

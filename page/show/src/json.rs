@@ -5,25 +5,25 @@ pub mod value;
 
 use crate::about::{self, TOOL, VERSION};
 use crate::region::Region;
-use crate::{Fault, Mark, Source, Subject, faults, sha256};
-use isonkaypu::{Doubt, ImageRefusal, Pass, Report, Span};
+use crate::{Fault, Mark, Outcome, Source, Subject, faults, sha256};
+use isonkaypu::{Doubt, Pass, Report, Span};
 use value::{Value, list, object};
 
 /// What the form is called; it changes when a key goes or changes its meaning.
-const SCHEMA: &str = "isonkaypu-report-1";
+const SCHEMA: &str = "isonkaypu-report-2";
 
 /// The report on a subject as a JSON text.
 pub fn json(subject: &Subject) -> String {
-    let report = subject.outcome.as_ref().ok();
-    let source = subject.source.map(Source::of);
+    let report = subject.report();
+    let source = subject.source().map(Source::of);
     object([
         ("schema", SCHEMA.into()),
         ("tool", object([("name", TOOL.into()), ("version", VERSION.into())])),
         ("kit", isonkaypu::kit().into()),
-        ("label", subject.label.into()),
-        ("image", bytes(subject.image)),
-        ("source", subject.source.map(bytes).into()),
-        ("outcome", outcome(&subject.outcome)),
+        ("label", subject.label().into()),
+        ("image", subject.image().map(bytes).into()),
+        ("source", subject.source().map(bytes).into()),
+        ("outcome", outcome(subject)),
         ("verdicts", report.map(verdicts).into()),
         ("offences", report.map(|report| offences(report, source.as_ref())).into()),
         ("complete", report.map(|report| report.doubts().is_empty()).into()),
@@ -37,13 +37,14 @@ fn bytes(bytes: &[u8]) -> Value {
     object([("sha256", sha256::hex(bytes).into()), ("length", bytes.len().into())])
 }
 
-fn outcome(outcome: &Result<Report, ImageRefusal>) -> Value {
-    let result = match outcome {
-        Ok(report) if report.accepted() => "accepted",
-        Ok(_) => "refused",
-        Err(_) => "no image",
+fn outcome(subject: &Subject) -> Value {
+    let (result, number) = match subject.outcome() {
+        Outcome::Checked(report) if report.accepted() => ("accepted", None),
+        Outcome::Checked(_) => ("refused", None),
+        Outcome::NoImage { refusal, .. } => ("no image", Some(refusal.number())),
+        Outcome::NotPacked(error) => ("no image", Some(error.number())),
     };
-    let refusal = outcome.as_ref().err().map(|refusal| refusal_in_words(u16::from(refusal.number())));
+    let refusal = number.map(|number| refusal_in_words(number.into()));
     object([("result", result.into()), ("refusal", refusal.into())])
 }
 
@@ -92,7 +93,7 @@ fn offence(fault: &Fault, name: Option<&str>, source: Option<&Source>) -> Value 
         ("name", name.into()),
         ("entry", fault.entry.as_deref().into()),
         ("place", place(&fault.here, source)),
-        ("related", fault.related.as_ref().map(|mark| place(mark, source)).into()),
+        ("related", list(fault.others.iter().map(|mark| place(mark, source)))),
         ("mend", fault.mend.as_str().into()),
     ])
 }

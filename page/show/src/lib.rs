@@ -23,7 +23,7 @@ pub use json::json;
 pub use numbers::numbers;
 pub use sarif::sarif;
 pub use source::Source;
-pub use subject::Subject;
+pub use subject::{Outcome, Subject};
 pub use terminal::safe;
 pub use text::text;
 pub use tree::tree;

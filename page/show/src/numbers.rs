@@ -1,15 +1,16 @@
 //! Document 01's report, byte for byte: what the report program prints.
 
 use crate::fault::list_refused;
-use crate::subject::Subject;
+use crate::subject::{Outcome, Subject};
 use isonkaypu::{Offence, Pass, Place, Report};
 
 /// "It prints `image N` alone on refusal N. Otherwise: per pass a line (name, code, place, two span
 /// words), `list` and the count (or `list refused 9`), per record a line".
 pub fn numbers(subject: &Subject) -> String {
-    match &subject.outcome {
-        Err(refusal) => format!("image {}\n", refusal.number()),
-        Ok(report) => Pass::ALL.map(|pass| pass_line(report, pass)).concat() + &list(report),
+    match subject.outcome() {
+        Outcome::NoImage { refusal, .. } => format!("image {}\n", refusal.number()),
+        Outcome::NotPacked(error) => format!("image {}\n", error.number()),
+        Outcome::Checked(report) => Pass::ALL.map(|pass| pass_line(report, pass)).concat() + &list(report),
     }
 }
 

@@ -46,7 +46,7 @@ fn properties(subject: &Subject) -> Value {
     object([
         ("kit", isonkaypu::kit().into()),
         ("complete", is_complete(subject).into()),
-        ("imageSha256", sha256::hex(subject.image).into()),
+        ("imageSha256", subject.image().map(sha256::hex).into()),
         ("checked", list(about::checked(subject).iter().map(|check| check.word))),
         ("notChecked", list(about::not_checked(subject).iter().map(|gap| gap.word))),
     ])
@@ -54,9 +54,9 @@ fn properties(subject: &Subject) -> Value {
 
 /// What the label names: the source where it is at hand, else the image.
 fn artifact(subject: &Subject) -> Value {
-    let bytes = subject.source.unwrap_or(subject.image);
+    let bytes = subject.source().or(subject.image()).unwrap_or_default();
     object([
-        ("location", object([("uri", escape::uri(subject.label).into())])),
+        ("location", object([("uri", escape::uri(subject.label()).into())])),
         ("length", bytes.len().into()),
         ("roles", list(["analysisTarget"])),
         ("hashes", object([("sha-256", sha256::hex(bytes).into())])),
@@ -65,11 +65,11 @@ fn artifact(subject: &Subject) -> Value {
 
 /// Did every check run, and is every answer to be relied on?
 fn is_complete(subject: &Subject) -> bool {
-    subject.outcome.as_ref().is_ok_and(|report| report.doubts().is_empty())
+    subject.report().is_some_and(|report| report.doubts().is_empty())
 }
 
 fn invocation(subject: &Subject) -> Value {
-    let troubles = trouble::troubles(&subject.outcome);
+    let troubles = trouble::troubles(subject);
     let notifications = troubles.iter().map(Trouble::notification).chain([trouble::not_checked(subject)]);
     object([
         ("executionSuccessful", is_complete(subject).into()),
@@ -79,8 +79,8 @@ fn invocation(subject: &Subject) -> Value {
 
 fn results(subject: &Subject) -> Vec<Value> {
     let places = Places::of(subject);
-    let faults = subject.outcome.as_ref().map(faults).unwrap_or_default();
-    let troubles = trouble::troubles(&subject.outcome);
+    let faults = subject.report().map(faults).unwrap_or_default();
+    let troubles = trouble::troubles(subject);
     let faults = faults.iter().map(|fault| result(fault, &places));
     let whole = |trouble: &Trouble| trouble_result(trouble, &places);
     faults.chain(troubles.iter().map(whole)).collect()
@@ -88,7 +88,8 @@ fn results(subject: &Subject) -> Vec<Value> {
 
 fn result(fault: &Fault, places: &Places) -> Value {
     let message = format!("{}. Mend: {}.", about::capital(&fault.sentence), fault.mend);
-    let related = fault.related.as_ref().map(|mark| list([places.related(mark, 1)]));
+    let others = fault.others.iter().enumerate().map(|(i, mark)| places.related(mark, i + 1));
+    let related = (!fault.others.is_empty()).then(|| list(others));
     of_rule(&fault.code.to_string(), &message)
         .with("locations", Some(list([places.location(&fault.here)])))
         .with("relatedLocations", related)
@@ -109,5 +110,5 @@ fn of_rule(id: &str, message: &str) -> Value {
 
 /// The source of a subject, where it is at hand.
 fn source<'a>(subject: &Subject<'a>) -> Option<Source<'a>> {
-    subject.source.map(Source::of)
+    subject.source().map(Source::of)
 }

@@ -4,22 +4,23 @@
 use crate::excerpt::Excerpt;
 use crate::fault::{Fault, Mark, counted, faults, list_refused};
 use crate::source::Source;
-use crate::subject::Subject;
+use crate::subject::{Outcome, Subject};
 use crate::terminal::safe;
-use isonkaypu::{ImageRefusal, Report};
+use isonkaypu::Report;
 
 /// The report as text. Where the source is missing, or a place is not in it, the node's number and
 /// span stand instead.
 pub fn text(subject: &Subject) -> String {
-    let label = safe(subject.label);
-    match &subject.outcome {
-        Err(refusal) => not_read(&label, *refusal),
-        Ok(report) => checked(&label, report, subject.source.map(Source::of).as_ref()),
+    let label = safe(subject.label());
+    match subject.outcome() {
+        Outcome::NoImage { refusal, .. } => not_read(&label, refusal.number()),
+        Outcome::NotPacked(error) => not_read(&label, error.number()),
+        Outcome::Checked(report) => checked(&label, report, subject.source().map(Source::of).as_ref()),
     }
 }
 
-fn not_read(label: &str, refusal: ImageRefusal) -> String {
-    let number = u16::from(refusal.number());
+fn not_read(label: &str, number: u8) -> String {
+    let number = u16::from(number);
     let (fault, mend) = words::refusal(number).map_or(("", ""), |e| (e.fault.as_str(), e.mend.as_str()));
     format!("NOT READ  {label}\n\n[image {number}] {fault}\n  mend: {mend}\n\nNothing was checked.\n")
 }
@@ -52,12 +53,12 @@ fn banner(label: &str, report: &Report, count: usize) -> String {
 /// A place with its sign, and its excerpt where it is in the source.
 type Placed<'f, 's> = (&'f Mark, char, Option<Excerpt<'s, 's>>);
 
-/// The place of a fault and its related place.
+/// The place of a fault and its related places.
 fn excerpts<'f, 's>(fault: &'f Fault, source: Option<&'s Source<'s>>) -> Vec<Placed<'f, 's>> {
     let excerpt = |mark: &Mark| source.and_then(|s| Some(Excerpt::of(s, s.place(mark.span)?)));
     let here = (&fault.here, '^', excerpt(&fault.here));
-    let related = fault.related.as_ref().map(|mark| (mark, '-', excerpt(mark)));
-    std::iter::once(here).chain(related).collect()
+    let others = fault.others.iter().map(|mark| (mark, '-', excerpt(mark)));
+    std::iter::once(here).chain(others).collect()
 }
 
 fn places(placed: &[Placed], width: usize, with_source: bool) -> String {

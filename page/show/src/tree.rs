@@ -5,8 +5,8 @@ use form::{Tree, kind};
 
 /// The tree, or what the refusal says.
 pub fn tree(subject: &Subject) -> String {
-    match subject.outcome.as_ref().map(|report| report.tree()) {
-        Ok(Some(tree)) => lines(&tree),
+    match subject.report().and_then(|report| report.tree()) {
+        Some(tree) => lines(&tree),
         _ => crate::text(subject),
     }
 }

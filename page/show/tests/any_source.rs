@@ -4,21 +4,20 @@
 mod common;
 
 use common::chance::Chance;
-use common::respanned;
+use common::{respanned, shown};
 use generate::patterns::patterns;
 use generate::{Rng, admitted, damaged, limits};
-use isonkaypu::check_image;
-use show::{Subject, numbers, text, tree};
+use show::{numbers, text, tree};
 
 /// Every form for a terminal, with the source and without.
 fn is_shown(image: &[u8], source: &[u8]) {
-    let subject = |source| Subject { label: "any", image, source, outcome: check_image(image) };
-    for subject in [subject(Some(source)), subject(None)] {
-        for form in [text(&subject), tree(&subject)] {
+    for source in [Some(source), None] {
+        for form in [text, tree] {
+            let form = shown(form, "any", image, source);
             assert!(form.ends_with('\n'));
             assert!(!form.chars().any(|c| c.is_control() && c != '\n'), "{form:?}");
         }
-        assert!(numbers(&subject) == reference::report(image));
+        assert!(shown(numbers, "any", image, source) == reference::report(image));
     }
 }
 

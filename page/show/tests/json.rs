@@ -46,9 +46,9 @@ fn a_faulty_contract() {
     assert_eq!([changed.at("name").text(), twice.at("name").text()], ["issued", "part"]);
     assert_eq!(cut(&source, changed.at("place")), "issued = checked(issued + amount);");
     assert_eq!(cut(&source, twice.at("place")), "let part = stock.get(ward).split(amount);");
-    assert_eq!(cut(&source, twice.at("related")), "part");
-    assert_eq!(twice.at("related/region/start_line").number(), line_of(&source, "send(pharmacist, part)"));
-    assert_eq!(twice.at("related/region/start_column").number(), 26);
+    assert_eq!(cut(&source, twice.at("related/0")), "part");
+    assert_eq!(twice.at("related/0/region/start_line").number(), line_of(&source, "send(pharmacist, part)"));
+    assert_eq!(twice.at("related/0/region/start_column").number(), 26);
 }
 
 fn cut<'a>(source: &'a str, place: &Json) -> &'a str {

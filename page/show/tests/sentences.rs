@@ -42,7 +42,7 @@ fn the_examples() {
         filled(&entry.fault, &fault.sentence, &entry.before);
         filled(&format!("{} {}", entry.mend, entry.kept), &fault.mend, &entry.before);
         filled(&entry.here, &fault.here.label, &entry.before);
-        let there = fault.related.map_or(String::new(), |mark| mark.label);
+        let there = fault.others.iter().map(|mark| mark.label.as_str()).collect::<String>();
         filled(&entry.there, &there, &entry.before);
         assert_eq!(there.is_empty(), entry.there.is_empty(), "{}", entry.number);
     }
@@ -52,11 +52,11 @@ fn the_examples() {
 fn places_and_labels() {
     let fault = only("state { f: u8; } entry e(a: u8, a: u8) { }");
     assert_eq!((fault.code, fault.pass, fault.entry.as_deref()), (25, Pass::Resolve, Some("e")));
-    let related = fault.related.expect("related");
+    let related = fault.others.first().expect("related");
     assert_eq!((fault.here.label.as_str(), related.label.as_str()), ("named again here", "named first here"));
     assert!(related.node < fault.here.node && related.span.from < fault.here.span.from);
     let fault = only("invariant x;");
-    assert_eq!((fault.pass, fault.entry, fault.related), (Pass::Access, None, None));
+    assert_eq!((fault.pass, fault.entry, fault.others), (Pass::Access, None, vec![]));
 }
 
 #[test]
@@ -78,7 +78,7 @@ fn a_lot_that_can_be_burned_and_one_that_cannot() {
 #[test]
 fn burned_and_used() {
     let fault = only("asset M; entry e(lot: Q_Asset<M>, to: Q_Address) burns M { send(to, lot); }");
-    assert_eq!((fault.code, fault.related), (62, None));
+    assert_eq!((fault.code, fault.others), (62, vec![]));
     assert!(fault.sentence.contains("its `burns` clause is a use too"), "{}", fault.sentence);
 }
 

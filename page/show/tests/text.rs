@@ -1,7 +1,8 @@
 //! The text for people, on contracts with a source: what stands where.
 
-use isonkaypu::check_image;
-use show::{Subject, text};
+mod common;
+
+use show::text;
 
 const WARD: &str = "\
 contract WardStock {
@@ -19,7 +20,7 @@ contract WardStock {
 
 /// The text for an image with a source, or without.
 fn shown(image: &[u8], source: Option<&[u8]>) -> String {
-    text(&Subject { label: "ward.quanta", image, source, outcome: check_image(image) })
+    common::shown(text, "ward.quanta", image, source)
 }
 
 /// The text for an example, with itself as the source.
@@ -174,6 +175,6 @@ fn a_terminal_is_not_told_what_to_do() {
     assert_eq!(excerpt(b"\x1b[2J x", 5, 6), escaped);
     let image = example::image(ONE_FAULT);
     let label = "a\u{1b}[2J\nb";
-    let text = text(&Subject { label, image: &image, source: None, outcome: check_image(&image) });
+    let text = common::shown(text, label, &image, None);
     assert!(text.starts_with("REFUSED  a\\u{1b}[2J\\u{a}b: 1 fault\n"), "{text}");
 }

@@ -4,8 +4,8 @@ use super::prose;
 use super::view::{Item, View};
 use crate::about::{self, Check, Gap};
 use crate::fault::counted;
-use crate::{escape, list_refused};
-use isonkaypu::{Doubt, ImageRefusal, Pass, Report};
+use crate::{Outcome, escape, list_refused};
+use isonkaypu::{Doubt, Pass, Report};
 
 /// How many faults the banner names one by one.
 const SUMMARY: usize = 8;
@@ -20,19 +20,19 @@ struct Answer {
 
 /// The answer in a few words, without names: for the title of the page and of the banner.
 pub fn title(view: &View) -> String {
-    match &view.subject.outcome {
-        Ok(report) if report.accepted() => "Accepted".to_string(),
-        Ok(report) if list_refused(report) => "Refused: more faults than can be listed".to_string(),
-        Ok(report) if !report.doubts().is_empty() => "Refused: the answers are in doubt".to_string(),
-        Ok(_) => format!("Refused: {}", counted(view.count())),
-        Err(_) => "Could not be read".to_string(),
+    match view.subject.report() {
+        Some(report) if report.accepted() => "Accepted".to_string(),
+        Some(report) if list_refused(report) => "Refused: more faults than can be listed".to_string(),
+        Some(report) if !report.doubts().is_empty() => "Refused: the answers are in doubt".to_string(),
+        Some(_) => format!("Refused: {}", counted(view.count())),
+        None => "Could not be read".to_string(),
     }
 }
 
 fn answer(view: &View) -> Answer {
     let title = title(view);
-    match &view.subject.outcome {
-        Ok(report) if report.accepted() => Answer {
+    match view.subject.outcome() {
+        Outcome::Checked(report) if report.accepted() => Answer {
             class: "accepted",
             title,
             drawing: "M5 13l5 5L20 7",
@@ -40,7 +40,7 @@ fn answer(view: &View) -> Answer {
                    <p>Some things are <a href=\"#not-checked\">not checked</a> here.</p>"
                 .to_string(),
         },
-        Ok(report) => Answer {
+        Outcome::Checked(report) => Answer {
             class: "refused",
             title,
             drawing: "M6 6l12 12M18 6L6 18",
@@ -51,16 +51,14 @@ fn answer(view: &View) -> Answer {
                 doubts(report) + &summary(view)
             ),
         },
-        Err(refusal) => Answer {
-            class: "unread",
-            title,
-            drawing: "M12 5v9M12 18v1",
-            html: format!(
-                "<p>The packed contract could not be read, so nothing was checked.</p>{}",
-                why(*refusal)
-            ),
-        },
+        Outcome::NoImage { refusal, .. } => unread(title, why(refusal.number(), &refusal)),
+        Outcome::NotPacked(error) => unread(title, why(error.number(), &error)),
     }
+}
+
+fn unread(title: String, why: String) -> Answer {
+    let html = format!("<p>The packed contract could not be read, so nothing was checked.</p>{why}");
+    Answer { class: "unread", title, drawing: "M12 5v9M12 18v1", html }
 }
 
 fn shown(report: &Report) -> &'static str {
@@ -94,9 +92,9 @@ fn summary(view: &View) -> String {
 }
 
 /// Why an image could not be read, in the words of its refusal.
-fn why(refusal: ImageRefusal) -> String {
-    let Some(words) = words::refusal(refusal.number().into()) else {
-        return format!("<p>{}</p>", escape::html(&refusal.to_string()));
+fn why(number: u8, error: &dyn std::fmt::Display) -> String {
+    let Some(words) = words::refusal(number.into()) else {
+        return format!("<p>{}</p>", escape::html(&error.to_string()));
     };
     let part =
         |title: &str, text: &str| format!("<div><dt>{title}</dt><dd>{}</dd></div>", prose::paragraphs(text));
@@ -117,7 +115,7 @@ pub fn section(view: &View) -> String {
         "<header class=\"banner {class}\"><p class=\"product\">Isonkaypu: check of a ward contract</p>\
          <h1><svg viewBox=\"0 0 24 24\" aria-hidden=\"true\"><path d=\"{drawing}\"/></svg> {title}</h1>\
          <p class=\"file\"><bdi>{}</bdi></p>{html}</header>\n",
-        escape::html(view.subject.label)
+        escape::html(view.subject.label())
     )
 }
 

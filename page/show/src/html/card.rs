@@ -72,10 +72,8 @@ fn card(view: &View, item: &Item) -> String {
          <h4 id=\"title-{number}\"><span class=\"tag here\"><span class=\"quiet\">Fault </span>{number}</span> {}</h4>\n\
          <dl>{}{}{}{}{}</dl>\n{}<p class=\"code-number\">{}: {} (code {})</p></article>\n",
         prose::sentence(&fault.sentence),
-        row("Where", &place(view, number, &fault.here, &item.here, "here")),
-        fault.related.as_ref().map_or(String::new(), |mark| {
-            row("Related place", &place(view, number, mark, &item.related, "also"))
-        }),
+        row("Where", &place(view, &format!("here-{number}"), &fault.here, &item.here, "here")),
+        row("Related place", &others(view, item)),
         part("What it means", said(|words| &words.means)),
         part("Why it matters", said(|words| &words.matters)),
         row("How to mend it", &format!("<p class=\"mend\">{}</p>", prose::sentence(&fault.mend))),
@@ -90,15 +88,21 @@ fn row(title: &str, html: &str) -> String {
     if html.is_empty() { String::new() } else { format!("<div><dt>{title}</dt><dd>{html}</dd></div>") }
 }
 
-/// A place in words: in the text where it lies there, else by its node. The class is `here`, or `also`
-/// for a related place.
-fn place(view: &View, number: usize, mark: &Mark, region: &Option<Region>, class: &str) -> String {
+/// The related places of a fault, from the first to the last.
+fn others(view: &View, item: &Item) -> String {
+    let others = item.fault.others.iter().zip(&item.others).enumerate();
+    others.map(|(i, (mark, region))| place(view, &item.other_id(i), mark, region, "also")).collect()
+}
+
+/// A place in words: in the text where it lies there, under the id of its mark, else by its node. The
+/// class is `here`, or `also` for a related place.
+fn place(view: &View, id: &str, mark: &Mark, region: &Option<Region>, class: &str) -> String {
     let label = prose::line(&mark.label);
     let label = if label.is_empty() { label } else { format!(": {label}") };
     let node = mark.node;
     match (&view.source, region) {
         (Some(source), Some(region)) => format!(
-            "<p><a href=\"#{class}-{number}\">{}</a>{label}</p>{}",
+            "<p><a href=\"#{id}\">{}</a>{label}</p>{}",
             prose::sentence(&region.in_words()),
             excerpt(source, region, class)
         ),

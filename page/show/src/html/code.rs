@@ -12,26 +12,32 @@ struct Marked<'a> {
     item: &'a Item,
     mark: &'a Mark,
     spot: Spot,
-    related: bool,
+    /// Which of the related places it is; the fault's own place is none.
+    other: Option<usize>,
 }
 
 impl Marked<'_> {
     fn class(&self) -> &'static str {
-        if self.related { "also" } else { "here" }
+        if self.other.is_some() { "also" } else { "here" }
+    }
+
+    fn id(&self) -> String {
+        self.other.map_or_else(|| format!("here-{}", self.item.number), |i| self.item.other_id(i))
     }
 
     fn tag(&self) -> String {
         let (class, number) = (self.class(), self.item.number);
-        let word = if self.related { "also " } else { "" };
+        let word = if self.other.is_some() { "also " } else { "" };
         format!(
-            "<a class=\"tag {class}\" id=\"{class}-{number}\" href=\"#fault-{number}\" tabindex=\"-1\" \
-             aria-hidden=\"true\">{word}{number}</a>"
+            "<a class=\"tag {class}\" id=\"{}\" href=\"#fault-{number}\" tabindex=\"-1\" \
+             aria-hidden=\"true\">{word}{number}</a>",
+            self.id()
         )
     }
 
     fn note(&self) -> String {
         let (class, number) = (self.class(), self.item.number);
-        let also = if self.related { ", related place" } else { "" };
+        let also = if self.other.is_some() { ", related place" } else { "" };
         format!(
             "<span class=\"note {class}\"><a href=\"#fault-{number}\">Fault {number}{also}</a>: {} \
              <span class=\"title\">({})</span></span>",
@@ -70,17 +76,17 @@ fn with_source(view: &View, source: &Source) -> String {
 }
 
 fn marked<'a>(view: &'a View) -> Vec<Marked<'a>> {
-    let one = |item: &'a Item, mark: Option<&'a Mark>, region: &Option<Region>, related: bool| {
+    let one = |item: &'a Item, mark: &'a Mark, region: &Option<Region>, other: Option<usize>| {
         let bytes = region.as_ref().map(|region| region.bytes.clone())?;
-        Some(Marked { item, mark: mark?, spot: Spot { from: bytes.start, to: bytes.end }, related })
+        Some(Marked { item, mark, spot: Spot { from: bytes.start, to: bytes.end }, other })
     };
-    let both = |item: &'a Item| {
-        [
-            one(item, Some(&item.fault.here), &item.here, false),
-            one(item, item.fault.related.as_ref(), &item.related, true),
-        ]
+    let all = |item: &'a Item| {
+        let others = item.fault.others.iter().zip(&item.others).enumerate();
+        let others = others.map(|(i, (mark, region))| one(item, mark, region, Some(i)));
+        let here = one(item, &item.fault.here, &item.here, None);
+        std::iter::once(here).chain(others).flatten().collect::<Vec<_>>()
     };
-    view.items().flat_map(both).flatten().collect()
+    view.items().flat_map(all).collect()
 }
 
 /// What the marks mean: only of those that are there.
@@ -89,7 +95,7 @@ fn legend(marked: &[Marked], lines: &[Line]) -> String {
         return String::new();
     }
     let inside = lines.iter().flat_map(|line| &line.pieces).any(|piece| piece.depth > 1);
-    let also = marked.iter().any(|one| one.related);
+    let also = marked.iter().any(|one| one.other.is_some());
     let said = |is: bool, text: &'static str| if is { text } else { "" };
     format!(
         "<p class=\"legend\">A <mark class=\"here\">solid line</mark> and a number mark the place of a fault; \
@@ -105,7 +111,7 @@ const INSIDE: &str = " A <mark class=\"here inside\">double line</mark> belongs 
 
 /// A warning where marks do not lie in the text: it may be another text than the one that was packed.
 fn outside(view: &View) -> String {
-    let lost = |item: &&Item| item.here.is_none() || (item.fault.related.is_some() && item.related.is_none());
+    let lost = |item: &&Item| item.here.is_none() || item.others.iter().any(Option::is_none);
     let links: Vec<String> = view
         .items()
         .filter(lost)

@@ -10,9 +10,18 @@ pub struct Item {
     pub number: usize,
     pub fault: Fault,
     pub here: Option<Region>,
-    pub related: Option<Region>,
+    /// The places of `fault.others`.
+    pub others: Vec<Option<Region>>,
     /// The first one on the page with this code: it has the example.
     pub first: bool,
+}
+
+impl Item {
+    /// The id of the mark of a related place: `also-2`, and `also-2-1` for one more.
+    pub fn other_id(&self, other: usize) -> String {
+        let more = if other == 0 { String::new() } else { format!("-{other}") };
+        format!("also-{}{more}", self.number)
+    }
 }
 
 /// The faults of one entry, or of the contract outside of its entries.
@@ -32,8 +41,8 @@ pub struct View<'a> {
 
 impl<'a> View<'a> {
     pub fn of(subject: &'a Subject<'a>) -> View<'a> {
-        let source = subject.source.map(Source::of);
-        let groups = subject.outcome.as_ref().map_or(Vec::new(), |report| groups(report, source.as_ref()));
+        let source = subject.source().map(Source::of);
+        let groups = subject.report().map_or(Vec::new(), |report| groups(report, source.as_ref()));
         View { subject, source, groups }
     }
 
@@ -75,6 +84,6 @@ fn group(entry: Option<usize>, fault: &Fault, tree: Option<&Tree>, source: Optio
 }
 
 fn item(number: usize, fault: Fault, first: bool, source: Option<&Source>) -> Item {
-    let related = fault.related.as_ref().and_then(|mark| Region::of(source, mark.span));
-    Item { number, here: Region::of(source, fault.here.span), fault, related, first }
+    let others = fault.others.iter().map(|mark| Region::of(source, mark.span)).collect();
+    Item { number, here: Region::of(source, fault.here.span), fault, others, first }
 }

@@ -16,8 +16,8 @@ pub struct Places<'a> {
 
 impl<'a> Places<'a> {
     pub fn of(subject: &'a Subject) -> Places<'a> {
-        let tree = subject.outcome.as_ref().ok().and_then(|report| report.tree());
-        Places { uri: escape::uri(subject.label), source: source(subject), tree }
+        let tree = subject.report().and_then(|report| report.tree());
+        Places { uri: escape::uri(subject.label()), source: source(subject), tree }
     }
 
     /// The file as a whole.

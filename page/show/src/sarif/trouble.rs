@@ -3,8 +3,8 @@
 
 use super::rules::{DOUBT, DOUBT_ID, described, message, refusal_id, refusals};
 use crate::json::value::{Value, list, object};
-use crate::{Subject, about};
-use isonkaypu::{Doubt, ImageRefusal, Report};
+use crate::{Outcome, Subject, about};
+use isonkaypu::Doubt;
 
 /// The notification that says what was not checked.
 const NOT_CHECKED_ID: &str = "not-checked";
@@ -33,10 +33,11 @@ impl Trouble {
 }
 
 /// Why the image could not be read, or why the answers are in doubt.
-pub fn troubles(outcome: &Result<Report, ImageRefusal>) -> Vec<Trouble> {
-    match outcome {
-        Ok(report) => report.doubts().iter().map(doubted).collect(),
-        Err(refusal) => vec![refused(refusal.number().into())],
+pub fn troubles(subject: &Subject) -> Vec<Trouble> {
+    match subject.outcome() {
+        Outcome::Checked(report) => report.doubts().iter().map(doubted).collect(),
+        Outcome::NoImage { refusal, .. } => vec![refused(refusal.number().into())],
+        Outcome::NotPacked(error) => vec![refused(error.number().into())],
     }
 }
 

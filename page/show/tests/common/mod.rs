@@ -47,7 +47,15 @@ pub fn mended() -> String {
 
 /// Shows an image, with a source or without, in one form.
 pub fn shown(form: fn(&Subject) -> String, label: &str, image: &[u8], source: Option<&[u8]>) -> String {
-    form(&Subject { label, image, source, outcome: check_image(image) })
+    let checked = check_image(image);
+    let subject = match &checked {
+        Ok(report) => Subject::checked(label, report),
+        Err(refusal) => Subject::no_image(label, image, *refusal),
+    };
+    form(&match source {
+        Some(source) => subject.with_source(source),
+        None => subject,
+    })
 }
 
 /// Shows a source that the example reader can read, with itself at hand.
