@@ -1,6 +1,6 @@
 //! The help page and the words of `explain`, made from the file of words.
 
-use crate::{CHECKED, Entry, Term, codes, glossary, lines, refusals, statuses};
+use crate::{Entry, OTHER_TEXT, Term, codes, glossary, lines, refusals, statuses};
 
 /// How wide the text of `explain` is.
 const WIDTH: usize = 88;
@@ -77,8 +77,8 @@ pub fn help_page() -> String {
     let sections = [
         HEAD.to_string(),
         section("Words", "", &terms(glossary())),
-        section("The lines of a report", LINES, &terms(lines_but_last())),
-        section("The same for people", PEOPLE, &terms(last_line())),
+        section("The lines of a report", LINES, &terms(lines_of_numbers())),
+        section("The same for people", PEOPLE, &terms(lines_for_people())),
         section("Exit statuses", STATUSES, &terms(statuses())),
         section("The image: refusals", IMAGE, &entries(refusals())),
         section("Resolve: names", RESOLVE, &entries(coded(20..=40))),
@@ -132,12 +132,17 @@ fn section(heading: &str, opening: &str, body: &str) -> String {
     format!("## {heading}\n\n{opening}{body}")
 }
 
-fn lines_but_last() -> &'static [Term] {
-    lines().split_last().map_or(&[], |(_, rest)| rest)
+/// The lines of numbers come first, then those for people.
+fn lines_of_numbers() -> &'static [Term] {
+    &lines()[..first_for_people()]
 }
 
-fn last_line() -> &'static [Term] {
-    lines().iter().position(|t| t.word == CHECKED).map_or(&[], |at| &lines()[at..])
+fn lines_for_people() -> &'static [Term] {
+    &lines()[first_for_people()..]
+}
+
+fn first_for_people() -> usize {
+    lines().iter().position(|t| t.word == OTHER_TEXT).unwrap_or(lines().len())
 }
 
 fn coded(range: std::ops::RangeInclusive<u16>) -> &'static [Entry] {

@@ -56,6 +56,9 @@ pub struct Words {
     pub codes: Vec<Entry>,
 }
 
+/// How a report for people begins where the text that was given is not the image's.
+pub const OTHER_TEXT: &str = "OTHER TEXT";
+
 /// The last line of every report on a contract.
 pub const CHECKED: &str = "Checked: names, access, lots. NOT checked: supply (conserve), signed authority";
 
