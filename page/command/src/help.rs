@@ -3,7 +3,8 @@
 use words::statuses;
 
 pub const USAGE: &str = "\
-usage: isonkaypu check IMAGE [--source FILE] [--format text|numbers|json|sarif|html]
+usage: isonkaypu check IMAGE... [--source FILE | --sources DIR] [--format text|numbers|json|sarif|html]
+                 [--output FILE] [--color always|never|auto] [--root DIR]
        isonkaypu show IMAGE
        isonkaypu explain [NUMBER | image NUMBER | WORD]
        isonkaypu help-page | --version | --help";
@@ -18,11 +19,19 @@ const ABOUT: &str =
     "Checks the rules of a ward's stock: a Quanta contract, packed as an image by the upload page.\n";
 
 const COMMANDS: &str = "\
-check    checks an image and writes the report; `-` is standard input
+check    checks images and writes the report; `-` is standard input
            --source FILE   the contract's text, so that each fault is shown in its line; the image's spans are
-                           byte offsets into it
+                           byte offsets into it. A text that is not the one that the image was made from is
+                           not shown: the report says where it differs, and the exit status is 3
+           --sources DIR   the same for several images: WARD.image with DIR/WARD.quanta
            --format FORM   text: for people (so it is without this option); numbers: the numbers alone;
-                           json, sarif: for programs; html: a page
+                           json, sarif: for programs; html: a page. Of several images text has a summary at
+                           its end, json is a list of reports, sarif one log; numbers and html take one image
+           --output FILE   writes the report to a file, whole or not at all; also -o FILE
+           --color WHEN    colours of text: always, never, or auto (so it is without this option): on a
+                           terminal, unless NO_COLOR is set
+           --root DIR      the folder that the paths of a sarif log begin at; else they are as they were given
+         Of several images the exit status is the highest. An option's value may also stand behind `=`
 show     writes the parts of an image as a tree: number, kind, name, span
 explain  says what a number or a word means and how to mend it; alone, lists what there is
 help-page

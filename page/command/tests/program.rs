@@ -84,20 +84,21 @@ fn with_a_source() {
     let source = file("source.quanta", WARD.as_bytes());
     let ran = run(&["check", "--source", path(&source), path(&image), "--format", "text"]);
     assert_eq!(ran.status, Some(OFFENCES));
-    assert!(ran.out.starts_with("REFUSED  source.quanta: 1 fault\n"), "{}", ran.out);
-    assert!(
-        ran.out.contains("  3 |     invariant issued <= limit;\n    |               ^^^^^^ named here\n"),
-        "{}",
-        ran.out
+    assert!(ran.out.starts_with(&format!("REFUSED  {}: 1 fault\n", path(&source))), "{}", ran.out);
+    let place = format!(
+        "  {}:3:15\n  3 |     invariant issued <= limit;\n    |               ^^^^^^ named here\n",
+        path(&source)
     );
-    assert!(run(&["check", path(&image)]).out.starts_with("REFUSED  source.image: 1 fault\n"));
+    assert!(ran.out.contains(&place), "{}", ran.out);
+    let alone = run(&["check", path(&image)]).out;
+    assert!(alone.starts_with(&format!("REFUSED  {}: 1 fault\n", path(&image))), "{alone}");
 }
 
 #[test]
 fn every_format() {
     let [image, source] = ["ward.image", "ward.quanta"].map(sample);
     let begins = [
-        ("text", "REFUSED  ward.quanta: 3 faults\n"),
+        ("text", format!("REFUSED  {source}: 3 faults\n").leak() as &str),
         ("numbers", "resolve 30 "),
         ("html", "<!DOCTYPE html>"),
     ];
@@ -149,7 +150,6 @@ fn what_cannot_be_read() {
     is_trouble(&run(&["check", "/no/such/image"]), "could not read /no/such/image");
     is_trouble(&run(&["check", &image, "--source", folder]), "could not read");
     is_trouble(&run(&["check", &image, "--source", "/no/such/source"]), "could not read /no/such/source");
-    is_trouble(&run(&["check", &image, "--source", "/dev/zero"]), "longer than");
     is_trouble(&run(&["check", "/no/\u{1b}[2J"]), "/no/\\u{1b}[2J");
     let write_only = fs::OpenOptions::new().write(true).open("/dev/null").expect("nothing");
     is_trouble(&with_input(&["check", "-"], Stdio::from(write_only)), "could not read");
@@ -181,8 +181,17 @@ fn usage() {
         &[],
         &["chekc"],
         &["check"],
-        &["check", &image, &image],
         &["check", &image, "--format"],
+        &["check", &image, "--format="],
+        &["check", &image, "--source="],
+        &["check", &image, &image, "--source", &image],
+        &["check", &image, &image, "--format", "html"],
+        &["check", &image, &image, "--format", "numbers"],
+        &["check", &image, "--source", &image, "--sources", "."],
+        &["check", &image, "--root", "."],
+        &["check", &image, "--color", "red"],
+        &["check", &image, "--output"],
+        &["check", &image, "-o", "a", "--output", "b"],
         &["check", &image, "--format", "pdf"],
         &["check", &image, "--format", "text", "--format", "text"],
         &["check", &image, "--source"],
@@ -194,8 +203,31 @@ fn usage() {
         &["help-page", "now"],
     ];
     for arguments in cases {
-        is_trouble(&run(arguments), "usage: isonkaypu check IMAGE");
+        let ran = run(arguments);
+        is_trouble(&ran, "\nusage: isonkaypu check IMAGE");
+        assert!(
+            ran.err.contains("\n       isonkaypu show IMAGE\n") && !ran.err.contains("\\u{a}"),
+            "{}",
+            ran.err
+        );
     }
+}
+
+/// What a person gave is shown in one line, whatever it has; only our own lines are lines.
+#[test]
+fn no_line_is_made_up() {
+    let ran = run(&["check", "x\nACCEPTED  ward", "--format", "a\nb"]);
+    assert!(ran.err.starts_with("isonkaypu: `a\\u{a}b` is no format"), "{}", ran.err);
+    let ran = run(&["check", "/no/x\nACCEPTED  ward"]);
+    assert_eq!(ran.err.lines().count(), 1, "{}", ran.err);
+}
+
+/// Alone it says what it can do. Nothing was checked, so a script must not take that for a yes.
+#[test]
+fn alone() {
+    let ran = run::<&str>(&[]);
+    is_trouble(&ran, "nothing was asked for");
+    assert!(ran.err.ends_with(&run(&["--help"]).out), "{}", ran.err);
 }
 
 #[test]
@@ -245,6 +277,10 @@ fn a_name_that_is_no_text() {
     let image = Path::new(env!("CARGO_TARGET_TMPDIR")).join(OsStr::from_bytes(b"w\xffrd.image"));
     fs::write(&image, example::image(WARD)).expect("a file for the test");
     let ran = run(&[OsStr::new("check"), image.as_os_str()]);
-    assert!(ran.out.starts_with("REFUSED  w\u{fffd}rd.image: 1 fault\n"), "{}", ran.out);
+    assert!(
+        ran.out.lines().next().is_some_and(|line| line.ends_with("/w\u{fffd}rd.image: 1 fault")),
+        "{}",
+        ran.out
+    );
     is_trouble(&run(&[OsStr::new("check"), OsStr::from_bytes(b"--w\xff")]), "is no option");
 }

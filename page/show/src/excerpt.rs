@@ -30,15 +30,26 @@ impl<'s, 'a> Excerpt<'s, 'a> {
         Some(self.source.line_of(last_byte)).filter(|last| *last > self.line)
     }
 
+    /// The line and the column where the place begins.
+    pub fn position(&self) -> Option<(usize, usize)> {
+        self.source.position(self.place.start)
+    }
+
     /// The line with its number, `width` digits wide.
     pub fn numbered(&self, width: usize) -> String {
         format!("  {:>width$} | {}", self.line, self.row().text).trim_end().to_string()
     }
 
-    /// The signs under the place, and what to say of it.
-    pub fn underlined(&self, width: usize, sign: char, label: &str) -> String {
+    /// The signs under the place, painted, and what to say of it.
+    pub fn underlined(
+        &self,
+        width: usize,
+        sign: char,
+        paint: impl Fn(&str) -> String,
+        label: &str,
+    ) -> String {
         let Row { from, to, .. } = self.row();
-        let signs = String::from(sign).repeat(to.saturating_sub(from).max(1));
+        let signs = paint(&String::from(sign).repeat(to.saturating_sub(from).max(1)));
         let on = self.last_line().map_or(String::new(), |last| format!(" (to line {last})"));
         format!("  {:width$} | {}{signs} {label}{on}", "", " ".repeat(from))
     }

@@ -10,7 +10,7 @@ mod prose;
 mod view;
 
 use crate::about::{TOOL, VERSION};
-use crate::{Subject, escape, sha256};
+use crate::{Subject, Text, escape, sha256};
 use view::View;
 
 const STYLE: &str = include_str!("html/style.css");
@@ -62,7 +62,11 @@ fn about(subject: &Subject) -> String {
         "<footer aria-labelledby=\"about\"><h2 id=\"about\">About this report</h2>\n<dl>{}{}{}{}</dl>\n\
          <details><summary>The raw numbers</summary><pre>{}</pre></details></footer>\n",
         subject.image().map_or(String::new(), |image| row("Packed contract (SHA-256)", digest(image))),
-        subject.source().map_or(String::new(), |source| row("Text shown (SHA-256)", digest(source))),
+        match subject.text() {
+            Text::Shown { bytes, .. } => row("Text shown (SHA-256)", digest(bytes)),
+            Text::Other { bytes, .. } => row("Another text, not shown (SHA-256)", digest(bytes)),
+            _ => String::new(),
+        },
         row("Checker", format!("{TOOL} {VERSION}")),
         row("Proved with", escape::html(isonkaypu::kit())),
         escape::html(&crate::numbers(subject)),

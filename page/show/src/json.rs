@@ -5,15 +5,24 @@ pub mod value;
 
 use crate::about::{self, TOOL, VERSION};
 use crate::region::Region;
-use crate::{Fault, Mark, Outcome, Source, Subject, faults, sha256};
+use crate::{Difference, Fault, Mark, Outcome, Source, Subject, Text, faults, looks, sha256};
 use isonkaypu::{Doubt, Pass, Report, Span};
 use value::{Value, list, object};
 
 /// What the form is called; it changes when a key goes or changes its meaning.
-const SCHEMA: &str = "isonkaypu-report-2";
+const SCHEMA: &str = "isonkaypu-report-3";
 
 /// The report on a subject as a JSON text.
 pub fn json(subject: &Subject) -> String {
+    of(subject).to_file()
+}
+
+/// The reports on several subjects: a list of the same objects.
+pub fn json_of(subjects: &[Subject]) -> String {
+    list(subjects.iter().map(of)).to_file()
+}
+
+fn of(subject: &Subject) -> Value {
     let report = subject.report();
     let source = subject.source().map(Source::of);
     object([
@@ -22,7 +31,7 @@ pub fn json(subject: &Subject) -> String {
         ("kit", isonkaypu::kit().into()),
         ("label", subject.label().into()),
         ("image", subject.image().map(bytes).into()),
-        ("source", subject.source().map(bytes).into()),
+        ("source", text(subject.text())),
         ("outcome", outcome(subject)),
         ("verdicts", report.map(verdicts).into()),
         ("offences", report.map(|report| offences(report, source.as_ref())).into()),
@@ -30,7 +39,36 @@ pub fn json(subject: &Subject) -> String {
         ("doubts", report.map(|report| list(report.doubts().iter().map(Doubt::to_string))).into()),
         ("not_checked", list(about::not_checked(subject).iter().map(|gap| gap.word))),
     ])
-    .to_file()
+}
+
+/// The text that was given, and whether it is the image's; of one that was too long there are no sums.
+fn text(text: &Text) -> Value {
+    let (name, state, given, difference) = match text {
+        Text::NotGiven => return Value::Null,
+        Text::Shown { name, bytes } => (name, "same", Some(bytes), None),
+        Text::Other { name, bytes, difference } => (name, "other", Some(bytes), Some(difference)),
+        Text::TooLong { name } => (name, "too long", None, None),
+        Text::NotHeld { name, bytes } => (name, "not compared", Some(bytes), None),
+    };
+    object([
+        ("name", (*name).into()),
+        ("state", state.into()),
+        ("sha256", given.map(|bytes| sha256::hex(bytes)).into()),
+        ("length", given.map(|bytes| bytes.len()).into()),
+        ("difference", difference.map(differs).into()),
+    ])
+}
+
+fn differs(difference: &Difference) -> Value {
+    let found = difference.found.as_ref();
+    object([
+        ("node", difference.node.into()),
+        ("span", span(difference.span)),
+        ("line", found.map(|found| found.line).into()),
+        ("column", found.map(|found| found.column).into()),
+        ("expected", difference.expected.as_str().into()),
+        ("found", found.map(|found| found.text.as_str()).into()),
+    ])
 }
 
 fn bytes(bytes: &[u8]) -> Value {
@@ -39,23 +77,24 @@ fn bytes(bytes: &[u8]) -> Value {
 
 fn outcome(subject: &Subject) -> Value {
     let (result, number) = match subject.outcome() {
-        Outcome::Checked(report) if report.accepted() => ("accepted", None),
+        Outcome::Checked(_) if subject.other_text().is_some() => ("other text", None),
+        Outcome::Checked(_) if subject.accepted() => ("accepted", None),
         Outcome::Checked(_) => ("refused", None),
         Outcome::NoImage { refusal, .. } => ("no image", Some(refusal.number())),
         Outcome::NotPacked(error) => ("no image", Some(error.number())),
     };
-    let refusal = number.map(|number| refusal_in_words(number.into()));
+    let refusal = number.map(|number| refusal_in_words(subject, number.into()));
     object([("result", result.into()), ("refusal", refusal.into())])
 }
 
-fn refusal_in_words(number: u16) -> Value {
+fn refusal_in_words(subject: &Subject, number: u16) -> Value {
     let words = words::refusal(number);
     object([
         ("number", number.into()),
         ("title", words.map(|w| w.title.as_str()).into()),
         ("means", words.map(|w| w.means.as_str()).into()),
         ("matters", words.map(|w| w.matters.as_str()).into()),
-        ("mend", words.map(|w| w.mend.as_str()).into()),
+        ("mend", words.map(|w| looks::mend(subject, w)).into()),
     ])
 }
 

@@ -2,11 +2,15 @@
 
 mod about;
 mod blanks;
+mod difference;
 mod escape;
 mod excerpt;
 mod fault;
 mod html;
+mod ink;
 mod json;
+mod looks;
+mod notice;
 mod numbers;
 mod region;
 mod sarif;
@@ -17,13 +21,14 @@ mod terminal;
 mod text;
 mod tree;
 
+pub use difference::{Difference, Found};
 pub use fault::{Fault, Mark, faults, list_refused};
 pub use html::html;
-pub use json::json;
+pub use json::{json, json_of};
 pub use numbers::numbers;
-pub use sarif::sarif;
+pub use sarif::{sarif, sarif_of};
 pub use source::Source;
-pub use subject::{Outcome, Subject};
+pub use subject::{LONGEST_SOURCE, Outcome, Subject, Text};
 pub use terminal::safe;
-pub use text::text;
+pub use text::{text, text_in_colour};
 pub use tree::tree;

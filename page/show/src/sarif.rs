@@ -1,7 +1,8 @@
-//! The report as SARIF 2.1.0, for the viewers and gates that read it. An image that could not be read,
-//! or an answer that is in doubt, is both a notification (the checks did not run well) and a result, so
-//! that nobody who counts results takes it for a clean contract.
+//! The report as SARIF 2.1.0, for the viewers and gates that read it. An image that could not be read, an
+//! answer that is in doubt, or a text that is not the image's, is both a notification (the checks did not
+//! run well) and a result, so that nobody who counts results takes it for a clean contract.
 
+mod fingerprint;
 mod place;
 mod rules;
 mod trouble;
@@ -9,7 +10,9 @@ mod trouble;
 use crate::about::{self, TOOL, VERSION};
 use crate::json::value::{Value, list, object};
 use crate::{Fault, Source, Subject, escape, faults, sha256};
+use fingerprint::fingerprints;
 use place::Places;
+use rules::{message, plain};
 use trouble::Trouble;
 
 const SCHEMA: &str =
@@ -17,18 +20,23 @@ const SCHEMA: &str =
 
 /// The report on a subject as a SARIF log.
 pub fn sarif(subject: &Subject) -> String {
-    object([("$schema", SCHEMA.into()), ("version", "2.1.0".into()), ("runs", list([run(subject)]))])
+    sarif_of(std::slice::from_ref(subject))
+}
+
+/// The reports on several subjects as one log of one run: code scanning takes no two runs of one tool.
+pub fn sarif_of(subjects: &[Subject]) -> String {
+    object([("$schema", SCHEMA.into()), ("version", "2.1.0".into()), ("runs", list([run(subjects)]))])
         .to_file()
 }
 
-fn run(subject: &Subject) -> Value {
+fn run(subjects: &[Subject]) -> Value {
     object([
         ("tool", object([("driver", driver())])),
-        ("invocations", list([invocation(subject)])),
-        ("artifacts", list([artifact(subject)])),
+        ("invocations", list([invocation(subjects)])),
+        ("artifacts", list(subjects.iter().map(artifact))),
         ("columnKind", "unicodeCodePoints".into()),
-        ("results", Value::List(results(subject))),
-        ("properties", properties(subject)),
+        ("results", list(subjects.iter().enumerate().flat_map(|(i, subject)| results(i, subject)))),
+        ("properties", properties(subjects)),
     ])
 }
 
@@ -42,17 +50,26 @@ fn driver() -> Value {
     ])
 }
 
-fn properties(subject: &Subject) -> Value {
+fn properties(subjects: &[Subject]) -> Value {
     object([
         ("kit", isonkaypu::kit().into()),
+        ("complete", subjects.iter().all(is_complete).into()),
+        ("images", list(subjects.iter().map(image))),
+    ])
+}
+
+/// What was checked of an image.
+fn image(subject: &Subject) -> Value {
+    object([
+        ("uri", escape::uri(subject.image_label()).into()),
+        ("sha256", subject.image().map(sha256::hex).into()),
         ("complete", is_complete(subject).into()),
-        ("imageSha256", subject.image().map(sha256::hex).into()),
         ("checked", list(about::checked(subject).iter().map(|check| check.word))),
         ("notChecked", list(about::not_checked(subject).iter().map(|gap| gap.word))),
     ])
 }
 
-/// What the label names: the source where it is at hand, else the image.
+/// What the label names: the source where it is shown, else the image.
 fn artifact(subject: &Subject) -> Value {
     let bytes = subject.source().or(subject.image()).unwrap_or_default();
     object([
@@ -63,52 +80,62 @@ fn artifact(subject: &Subject) -> Value {
     ])
 }
 
-/// Did every check run, and is every answer to be relied on?
+/// Did every check run, is every answer to be relied on, and is the text, if any, the image's?
 fn is_complete(subject: &Subject) -> bool {
-    subject.report().is_some_and(|report| report.doubts().is_empty())
+    subject.report().is_some_and(|report| report.doubts().is_empty()) && subject.other_text().is_none()
 }
 
-fn invocation(subject: &Subject) -> Value {
-    let troubles = trouble::troubles(subject);
-    let notifications = troubles.iter().map(Trouble::notification).chain([trouble::not_checked(subject)]);
+fn invocation(subjects: &[Subject]) -> Value {
     object([
-        ("executionSuccessful", is_complete(subject).into()),
-        ("toolExecutionNotifications", list(notifications)),
+        ("executionSuccessful", subjects.iter().all(is_complete).into()),
+        ("toolExecutionNotifications", list(subjects.iter().flat_map(trouble::notifications))),
     ])
 }
 
-fn results(subject: &Subject) -> Vec<Value> {
-    let places = Places::of(subject);
+fn results(artifact: usize, subject: &Subject) -> Vec<Value> {
+    let places = Places::of(subject, artifact);
     let faults = subject.report().map(faults).unwrap_or_default();
+    let prints = fingerprints(subject, &faults);
     let troubles = trouble::troubles(subject);
-    let faults = faults.iter().map(|fault| result(fault, &places));
+    let faults = faults.iter().zip(prints).map(|(fault, print)| result(fault, print, &places));
     let whole = |trouble: &Trouble| trouble_result(trouble, &places);
     faults.chain(troubles.iter().map(whole)).collect()
 }
 
-fn result(fault: &Fault, places: &Places) -> Value {
-    let message = format!("{}. Mend: {}.", about::capital(&fault.sentence), fault.mend);
+fn result(fault: &Fault, fingerprint: Value, places: &Places) -> Value {
     let others = fault.others.iter().enumerate().map(|(i, mark)| places.related(mark, i + 1));
     let related = (!fault.others.is_empty()).then(|| list(others));
-    of_rule(&fault.code.to_string(), &message)
+    of_rule(&fault.code.to_string(), object([("text", said(fault).into())]))
         .with("locations", Some(list([places.location(&fault.here)])))
         .with("relatedLocations", related)
+        .with("partialFingerprints", Some(fingerprint))
+}
+
+/// The sentence and how to mend it, with a link to each related place: `[its second use](1)`.
+fn said(fault: &Fault) -> String {
+    let link = |(i, label): (usize, &str)| format!("[{}]({})", plain(label), i + 1);
+    let labels = fault.others.iter().map(|mark| if mark.label.is_empty() { "there" } else { &mark.label });
+    let links: Vec<String> = labels.enumerate().map(link).collect();
+    let see = if links.is_empty() { String::new() } else { format!(" See {}.", links.join(", ")) };
+    format!("{}. Mend: {}.{see}", plain(&about::capital(&fault.sentence)), plain(&fault.mend))
 }
 
 fn trouble_result(trouble: &Trouble, places: &Places) -> Value {
-    of_rule(&trouble.id, &trouble.says).with("locations", Some(list([places.whole()])))
+    of_rule(&trouble.id, message(&trouble.says))
+        .with("locations", Some(list([places.whole()])))
+        .with("partialFingerprints", Some(fingerprint::of(&[&trouble.id])))
 }
 
-fn of_rule(id: &str, message: &str) -> Value {
+fn of_rule(id: &str, message: Value) -> Value {
     let index = rules::index(id);
     object([("ruleId", id.into())])
         .with("ruleIndex", index.map(Value::from))
         .with("kind", Some("fail".into()))
         .with("level", Some("error".into()))
-        .with("message", Some(rules::message(message)))
+        .with("message", Some(message))
 }
 
-/// The source of a subject, where it is at hand.
+/// The source of a subject, where it is shown.
 fn source<'a>(subject: &Subject<'a>) -> Option<Source<'a>> {
     subject.source().map(Source::of)
 }

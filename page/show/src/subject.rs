@@ -1,6 +1,12 @@
-//! What is shown: what the checker says of a contract, and the contract's text where it is at hand.
+//! What is shown: what the checker says of a contract, and the contract's text where it is at hand and
+//! is the one that the image was made from.
 
+use crate::difference::Difference;
+use form::Tree;
 use isonkaypu::{ImageRefusal, PackError, Report};
+
+/// The longest text that is shown, in bytes. A contract that an image can hold is far shorter.
+pub const LONGEST_SOURCE: usize = 1 << 20;
 
 /// What became of a contract.
 #[derive(Clone, Copy)]
@@ -14,36 +20,68 @@ pub enum Outcome<'a> {
     NotPacked(PackError),
 }
 
+/// What became of the text that was given with a contract.
+#[derive(Clone, Debug, PartialEq, Eq)]
+pub enum Text<'a> {
+    /// None was given.
+    NotGiven,
+    /// It is shown: it has every name where the image says, or there is no image that could say so since
+    /// the contract could not be packed.
+    Shown { name: &'a str, bytes: &'a [u8] },
+    /// It is not the one that the image was made from. Nothing of it is shown.
+    Other { name: &'a str, bytes: &'a [u8], difference: Difference },
+    /// It is longer than `LONGEST_SOURCE`, and was not looked at.
+    TooLong { name: &'a str },
+    /// There is no image that it could be held against.
+    NotHeld { name: &'a str, bytes: &'a [u8] },
+}
+
 /// What every form is made from.
 pub struct Subject<'a> {
     label: &'a str,
     outcome: Outcome<'a>,
-    source: Option<&'a [u8]>,
+    text: Text<'a>,
 }
 
 impl<'a> Subject<'a> {
-    /// A contract whose image was checked. The label is what the reader calls it: the file's name.
+    /// A contract whose image was checked. The label is what the reader calls it: the image's name.
     pub fn checked(label: &'a str, report: &'a Report) -> Subject<'a> {
-        Subject { label, outcome: Outcome::Checked(report), source: None }
+        Subject { label, outcome: Outcome::Checked(report), text: Text::NotGiven }
     }
 
     /// Bytes that are no image.
     pub fn no_image(label: &'a str, image: &'a [u8], refusal: ImageRefusal) -> Subject<'a> {
-        Subject { label, outcome: Outcome::NoImage { image, refusal }, source: None }
+        Subject { label, outcome: Outcome::NoImage { image, refusal }, text: Text::NotGiven }
     }
 
     /// A contract that could not be packed.
     pub fn not_packed(label: &'a str, error: PackError) -> Subject<'a> {
-        Subject { label, outcome: Outcome::NotPacked(error), source: None }
+        Subject { label, outcome: Outcome::NotPacked(error), text: Text::NotGiven }
     }
 
-    /// The same with the contract's text, which the spans are byte offsets into. Any bytes may be given:
-    /// it may not be text, and spans may lie outside.
-    pub fn with_source(self, source: &'a [u8]) -> Subject<'a> {
-        Subject { source: Some(source), ..self }
+    /// The same with the contract's text and what the reader calls that. The image's spans are byte offsets
+    /// into it. Any bytes may be given: those that differ from what the image says are not shown, and every
+    /// form says so.
+    pub fn with_source(self, name: &'a str, source: &'a [u8]) -> Subject<'a> {
+        let text = match (self.outcome, source.len() > LONGEST_SOURCE) {
+            (_, true) => Text::TooLong { name },
+            (Outcome::NoImage { .. }, _) => Text::NotHeld { name, bytes: source },
+            (Outcome::NotPacked(_), _) => Text::Shown { name, bytes: source },
+            (Outcome::Checked(report), _) => held(report.tree(), name, source),
+        };
+        Subject { text, ..self }
     }
 
+    /// What the reader calls what the report is about: the text where it is shown, else the image.
     pub fn label(&self) -> &'a str {
+        match self.text {
+            Text::Shown { name, .. } => name,
+            _ => self.label,
+        }
+    }
+
+    /// What the reader calls the image.
+    pub fn image_label(&self) -> &'a str {
         self.label
     }
 
@@ -59,6 +97,11 @@ impl<'a> Subject<'a> {
         }
     }
 
+    /// Whether the contract was accepted, and the text that was given with it, if any, is its own.
+    pub fn accepted(&self) -> bool {
+        self.report().is_some_and(Report::accepted) && self.other_text().is_none()
+    }
+
     /// The image, or the bytes that are none.
     pub fn image(&self) -> Option<&'a [u8]> {
         match self.outcome {
@@ -68,8 +111,33 @@ impl<'a> Subject<'a> {
         }
     }
 
-    /// The contract's text, where it is at hand.
+    /// What became of the text.
+    pub fn text(&self) -> &Text<'a> {
+        &self.text
+    }
+
+    /// The contract's text, where it is shown.
     pub fn source(&self) -> Option<&'a [u8]> {
-        self.source
+        match self.text {
+            Text::Shown { bytes, .. } => Some(bytes),
+            _ => None,
+        }
+    }
+
+    /// The name of a text that is not the image's, and where it first differs.
+    pub fn other_text(&self) -> Option<(&'a str, &Difference)> {
+        match &self.text {
+            Text::Other { name, difference, .. } => Some((name, difference)),
+            _ => None,
+        }
+    }
+}
+
+/// The text held against the names of the image. Every admitted image has a tree.
+fn held<'a>(tree: Option<Tree>, name: &'a str, bytes: &'a [u8]) -> Text<'a> {
+    match tree.map(|tree| Difference::first(&tree, bytes)) {
+        Some(None) => Text::Shown { name, bytes },
+        Some(Some(difference)) => Text::Other { name, bytes, difference },
+        None => Text::NotHeld { name, bytes },
     }
 }

@@ -33,6 +33,33 @@ pub fn safe(text: &str) -> String {
     shown
 }
 
+/// The most columns of a line of prose.
+pub const COLUMNS: usize = 100;
+
+/// Prose broken between words: the first line begins in a column, the others are set in. A word that is
+/// too long for a line stays whole.
+pub fn wrapped(text: &str, column: usize, inset: usize) -> String {
+    let columns = |word: &str| word.chars().map(|c| glyph(c, 0).1).sum::<usize>();
+    let mut lines = String::new();
+    let mut at = column;
+    for (i, word) in text.split(' ').enumerate() {
+        let fits = at + 1 + columns(word) <= COLUMNS;
+        match (i, fits) {
+            (0, _) => at += columns(word),
+            (_, true) => {
+                lines.push(' ');
+                at += 1 + columns(word);
+            }
+            (_, false) => {
+                lines += &format!("\n{:inset$}", "");
+                at = inset + columns(word);
+            }
+        }
+        lines.push_str(word);
+    }
+    lines
+}
+
 /// Columns of a character that is shown as it is: none for marks set on the one before, two for the
 /// wide ones of East Asia and for pictures, else one. Near enough for a line under a place.
 fn width(c: char) -> usize {
@@ -61,6 +88,19 @@ mod tests {
         assert_eq!(safe("\u{202e}x\u{7f}\u{9b}\r\u{feff}"), "\\u{202e}x\\u{7f}\\u{9b}\\u{d}\\u{feff}");
         assert_eq!(safe("a\tb\t\tc"), "a   b       c");
         assert_eq!(safe("Müller 鈴木"), "Müller 鈴木");
+    }
+
+    #[test]
+    fn prose_is_broken_between_words() {
+        let words = "word ".repeat(40);
+        let broken = wrapped(words.trim_end(), 5, 2);
+        let lengths: Vec<usize> = broken.lines().map(str::len).collect();
+        assert_eq!(lengths, [94, 96, 11]);
+        assert_eq!(broken.replace("\n  ", " "), words.trim_end());
+        assert_eq!(wrapped(&"木 ".repeat(40), 0, 0).lines().map(str::len).max(), Some(33 * 4 - 1));
+        let long = "x".repeat(200);
+        assert_eq!(wrapped(&format!("a {long} b"), 0, 2), format!("a\n  {long}\n  b"));
+        assert_eq!(wrapped("", 3, 3), "");
     }
 
     #[test]

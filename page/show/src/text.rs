@@ -3,83 +3,176 @@
 
 use crate::excerpt::Excerpt;
 use crate::fault::{Fault, Mark, counted, faults, list_refused};
+use crate::ink::Ink;
 use crate::source::Source;
 use crate::subject::{Outcome, Subject};
-use crate::terminal::safe;
-use isonkaypu::Report;
+use crate::terminal::{safe, wrapped};
+use crate::{about, looks, notice};
+use form::Tree;
+use isonkaypu::{Pass, Report};
 
-/// The report as text. Where the source is missing, or a place is not in it, the node's number and
-/// span stand instead.
+/// The report as text. Where the source is missing, or a place is not in it, the entry, the node's number
+/// and the span stand instead.
 pub fn text(subject: &Subject) -> String {
-    let label = safe(subject.label());
+    written(subject, Ink::Plain)
+}
+
+/// The same for a terminal that shows colours.
+pub fn text_in_colour(subject: &Subject) -> String {
+    written(subject, Ink::Coloured)
+}
+
+fn written(subject: &Subject, ink: Ink) -> String {
     match subject.outcome() {
-        Outcome::NoImage { refusal, .. } => not_read(&label, refusal.number()),
-        Outcome::NotPacked(error) => not_read(&label, error.number()),
-        Outcome::Checked(report) => checked(&label, report, subject.source().map(Source::of).as_ref()),
+        Outcome::NoImage { refusal, .. } => not_read(subject, refusal.number(), ink),
+        Outcome::NotPacked(error) => not_read(subject, error.number(), ink),
+        Outcome::Checked(report) => checked(subject, report, ink),
     }
 }
 
-fn not_read(label: &str, number: u8) -> String {
+fn not_read(subject: &Subject, number: u8, ink: Ink) -> String {
     let number = u16::from(number);
-    let (fault, mend) = words::refusal(number).map_or(("", ""), |e| (e.fault.as_str(), e.mend.as_str()));
-    format!("NOT READ  {label}\n\n[image {number}] {fault}\n  mend: {mend}\n\nNothing was checked.\n")
+    let words = words::refusal(number);
+    let fault = words.map_or("", |words| words.fault.as_str());
+    format!(
+        "{}  {}\n\n{}{}\nNothing was checked.\n",
+        ink.open("NOT READ"),
+        safe(subject.label()),
+        headed(&ink.bad(&format!("[image {number}]")), &format!("image {number}"), fault),
+        mend(words.map_or("", |words| looks::mend(subject, words)), ink),
+    )
 }
 
-fn checked(label: &str, report: &Report, source: Option<&Source>) -> String {
+/// A number in brackets and its sentence.
+fn headed(head: &str, plain: &str, sentence: &str) -> String {
+    let column = plain.chars().count() + 3;
+    format!("{head} {}\n", wrapped(sentence, column, column))
+}
+
+fn mend(how: &str, ink: Ink) -> String {
+    format!("  {} {}\n", ink.strong("mend:"), wrapped(how, 8, 8))
+}
+
+fn checked(subject: &Subject, report: &Report, ink: Ink) -> String {
     let faults = faults(report);
-    let excerpts: Vec<_> = faults.iter().map(|fault| excerpts(fault, source)).collect();
-    let lines = excerpts.iter().flatten().filter_map(|(_, _, excerpt)| excerpt.as_ref().map(|e| e.line));
+    let source = subject.source().map(Source::of);
+    let placed: Vec<_> = faults.iter().map(|fault| placed(fault, source.as_ref())).collect();
+    let lines = placed.iter().flatten().filter_map(|place| place.excerpt.as_ref().map(|e| e.line));
     let width = lines.max().unwrap_or(0).to_string().len();
-    let mut text = banner(label, report, faults.len());
-    for (fault, excerpts) in faults.iter().zip(&excerpts) {
-        text += &format!("[{}] {}\n", fault.code, fault.sentence);
-        text += &places(excerpts, width, source.is_some());
-        text += &format!("  mend: {}\n\n", fault.mend);
+    let page =
+        Page { label: safe(subject.label()), tree: report.tree(), source: source.is_some(), width, ink };
+    let mut text = opening(subject, report, faults.len(), ink);
+    for (fault, placed) in faults.iter().zip(&placed) {
+        let head = ink.bad(&format!("[{}]", fault.code));
+        text += &headed(&head, &fault.code.to_string(), &fault.sentence);
+        text += &placed.chunk_by(Placed::on_one_line).map(|places| page.places(places)).collect::<String>();
+        text += &(mend(&fault.mend, ink) + "\n");
     }
-    text + words::CHECKED + "\n"
+    text + &summary(report, &faults) + words::CHECKED + "\n"
 }
 
-fn banner(label: &str, report: &Report, count: usize) -> String {
-    let (answer, what) = match (report.accepted(), list_refused(report), report.doubts()) {
+/// The banner and what is to be said before the faults.
+fn opening(subject: &Subject, report: &Report, count: usize, ink: Ink) -> String {
+    let (answer, what) = answer(report, count);
+    let doubts: String = report.doubts().iter().map(|doubt| format!("in doubt: {doubt}\n")).collect();
+    let line = |text: String| wrapped(&text, 0, 0) + "\n";
+    let label = safe(subject.label());
+    let Some(other) = notice::other_text(subject) else {
+        let answer = if report.accepted() { ink.good(answer) } else { ink.bad(answer) };
+        let not_shown = notice::not_shown(subject).map_or(String::new(), line);
+        return format!("{answer}  {label}: {what}\n{doubts}{not_shown}\n");
+    };
+    format!(
+        "{}  {label}\n\n{}{}\n{}{doubts}\n",
+        ink.open(words::OTHER_TEXT),
+        line(other.says),
+        mend(notice::OTHER_TEXT_MEND, ink),
+        line(format!("The image alone is {}: {what}. {}", answer.to_lowercase(), other.unsaid)),
+    )
+}
+
+fn answer(report: &Report, count: usize) -> (&'static str, String) {
+    match (report.accepted(), list_refused(report), report.doubts()) {
         (true, _, _) => ("ACCEPTED", "no faults".to_string()),
         (false, true, _) => ("REFUSED", "too many faults for a list; the first of each check".to_string()),
         (false, false, []) => ("REFUSED", counted(count)),
         (false, false, _) => ("REFUSED", "the answers are in doubt".to_string()),
-    };
-    let doubts: String = report.doubts().iter().map(|doubt| format!("in doubt: {doubt}\n")).collect();
-    format!("{answer}  {label}: {what}\n{doubts}\n")
+    }
 }
 
-/// A place with its sign, and its excerpt where it is in the source.
-type Placed<'f, 's> = (&'f Mark, char, Option<Excerpt<'s, 's>>);
+/// "3 faults: names 1, access 1, lots 1"; nothing where there are none.
+fn summary(report: &Report, faults: &[Fault]) -> String {
+    let count = |pass: Pass| faults.iter().filter(|fault| fault.pass == pass).count();
+    let counts = Pass::ALL.map(|pass| (about::word(pass), count(pass)));
+    let counts: Vec<String> =
+        counts.iter().filter(|(_, n)| *n > 0).map(|(w, n)| format!("{w} {n}")).collect();
+    match (faults.is_empty(), list_refused(report)) {
+        (true, _) => String::new(),
+        (false, false) => format!("{}: {}\n", counted(faults.len()), counts.join(", ")),
+        (false, true) => format!("the first fault of each check: {}\n", counts.join(", ")),
+    }
+}
+
+/// A place of a fault with its sign, and its excerpt where it is in the source.
+struct Placed<'f, 's> {
+    mark: &'f Mark,
+    sign: char,
+    excerpt: Option<Excerpt<'s, 's>>,
+}
+
+impl Placed<'_, '_> {
+    /// Places on one line are shown under it together.
+    fn on_one_line(&self, next: &Placed) -> bool {
+        let line = |place: &Placed| place.excerpt.as_ref().map(|excerpt| excerpt.line);
+        line(self).is_some() && line(self) == line(next)
+    }
+}
 
 /// The place of a fault and its related places.
-fn excerpts<'f, 's>(fault: &'f Fault, source: Option<&'s Source<'s>>) -> Vec<Placed<'f, 's>> {
+fn placed<'f, 's>(fault: &'f Fault, source: Option<&'s Source<'s>>) -> Vec<Placed<'f, 's>> {
     let excerpt = |mark: &Mark| source.and_then(|s| Some(Excerpt::of(s, s.place(mark.span)?)));
-    let here = (&fault.here, '^', excerpt(&fault.here));
-    let others = fault.others.iter().map(|mark| (mark, '-', excerpt(mark)));
-    std::iter::once(here).chain(others).collect()
+    let one = |mark: &'f Mark, sign| Placed { mark, sign, excerpt: excerpt(mark) };
+    let others = fault.others.iter().map(|mark| one(mark, '-'));
+    std::iter::once(one(&fault.here, '^')).chain(others).collect()
 }
 
-fn places(placed: &[Placed], width: usize, with_source: bool) -> String {
-    let mut text = String::new();
-    let mut shown = None;
-    for (mark, sign, excerpt) in placed {
-        let Some(excerpt) = excerpt else {
-            text += &without_excerpt(mark, with_source);
-            continue;
+/// What the places of all faults have in common.
+struct Page<'a> {
+    label: String,
+    tree: Option<Tree<'a>>,
+    source: bool,
+    /// How wide the numbers of lines are.
+    width: usize,
+    ink: Ink,
+}
+
+impl Page<'_> {
+    /// Places on one line of the source, or one place that is not in it: `file:line:column` of each, then
+    /// the line, then what is marked in it.
+    fn places(&self, places: &[Placed]) -> String {
+        let [Placed { excerpt: Some(first), .. }, ..] = places else {
+            return places.iter().map(|place| self.without_excerpt(place.mark)).collect();
         };
-        // a line that stands just above is not shown again
-        if shown.replace(excerpt.line) != Some(excerpt.line) {
-            text += &(excerpt.numbered(width) + "\n");
-        }
-        text += &(excerpt.underlined(width, *sign, &mark.label) + "\n");
+        let excerpts = || places.iter().filter_map(|place| Some((place, place.excerpt.as_ref()?)));
+        let at = |(line, column): (usize, usize)| format!("  {}:{line}:{column}\n", self.label);
+        let positions: String = excerpts().filter_map(|(_, e)| e.position()).map(at).collect();
+        let marked = |(place, excerpt): (&Placed, &Excerpt)| {
+            let paint = |signs: &str| self.painted(place.sign, signs);
+            excerpt.underlined(self.width, place.sign, paint, &place.mark.label) + "\n"
+        };
+        format!("{positions}{}\n{}", first.numbered(self.width), excerpts().map(marked).collect::<String>())
     }
-    text
-}
 
-fn without_excerpt(mark: &Mark, with_source: bool) -> String {
-    let Mark { node, span, label } = mark;
-    let outside = if with_source { ", which is no place in the source" } else { "" };
-    format!("  node {node}, bytes {} to {}{outside}: {label}\n", span.from, span.to)
+    fn painted(&self, sign: char, signs: &str) -> String {
+        if sign == '^' { self.ink.bad(signs) } else { self.ink.also(signs) }
+    }
+
+    fn without_excerpt(&self, mark: &Mark) -> String {
+        let Mark { node, span, label } = mark;
+        let tree = self.tree.as_ref();
+        let entry = tree.and_then(|tree| Some(crate::blanks::text(tree, tree.entry_of(*node)? + 1)));
+        let within = entry.map_or("outside of the entries".to_string(), |name| format!("in entry `{name}`"));
+        let outside = if self.source { ", which is no place in the text" } else { "" };
+        format!("  {within}, node {node}, bytes {} to {}{outside}: {label}\n", span.from, span.to)
+    }
 }

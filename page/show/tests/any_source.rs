@@ -1,10 +1,11 @@
 //! Any image, any source and any spans: every form for a terminal is made, nothing of it could move
-//! the cursor, and the numbers are those of document 01's plain reading.
+//! the cursor, and the numbers are those of document 01's plain reading. A source that fits the image's
+//! names is shown, whatever else it has; others are not.
 
 mod common;
 
 use common::chance::Chance;
-use common::{respanned, shown};
+use common::{fitted, respanned, shown};
 use generate::patterns::patterns;
 use generate::{Rng, admitted, damaged, limits};
 use show::{numbers, text, tree};
@@ -21,6 +22,26 @@ fn is_shown(image: &[u8], source: &[u8]) {
     }
 }
 
+/// The same, and the source is not shown: it is another one's.
+fn is_not_shown(image: &[u8], source: &[u8]) {
+    is_shown(image, source);
+    let text = shown(text, "any", image, Some(source));
+    assert!(text.starts_with("OTHER TEXT  any\n") && !text.contains(" | "), "{text}");
+}
+
+/// The same, and the source is taken for the image's.
+fn is_matched(image: &[u8], source: &[u8]) {
+    is_shown(image, source);
+    let text = shown(text, "any", image, Some(source));
+    assert!(text.starts_with("ACCEPTED  any: ") || text.starts_with("REFUSED  any: "), "{text}");
+}
+
+/// Some pieces of the sorts that break things.
+fn nasty(chance: &mut Chance) -> Vec<u8> {
+    let pieces = chance.below(6);
+    chance.nasty(pieces)
+}
+
 #[test]
 fn any_source_and_any_spans() {
     let mut chance = Chance::new(5);
@@ -28,7 +49,9 @@ fn any_source_and_any_spans() {
         let image = admitted(&mut Rng::of_image(5, index));
         let pieces = chance.below(60);
         let source = chance.nasty(pieces);
-        is_shown(&respanned(&image, |_| chance.span(source.len())), &source);
+        is_not_shown(&respanned(&image, |_| chance.span(source.len())), &source);
+        let (image, source) = fitted(&image, &mut chance, nasty);
+        is_matched(&image, &source);
     }
 }
 
@@ -39,7 +62,10 @@ fn the_examples_with_any_source() {
     for round in 0..4_000 {
         let pieces = chance.below(200);
         let source = chance.nasty(pieces);
-        is_shown(&respanned(&images[round % images.len()], |_| chance.span(source.len())), &source);
+        let image = &images[round % images.len()];
+        is_not_shown(&respanned(image, |_| chance.span(source.len())), &source);
+        let (image, source) = fitted(image, &mut chance, nasty);
+        is_matched(&image, &source);
     }
 }
 
@@ -58,18 +84,27 @@ fn damaged_images_and_bytes() {
 #[test]
 fn patterns_and_limits() {
     let source = "x\n".repeat(300);
+    let mut chance = Chance::new(8);
     for pattern in patterns() {
-        is_shown(&pattern.tree.image(), source.as_bytes());
+        is_not_shown(&pattern.tree.image(), source.as_bytes());
+        let (image, source) = fitted(&pattern.tree.image(), &mut chance, nasty);
+        is_matched(&image, &source);
     }
     for limit in limits() {
         is_shown(&limit.image, source.as_bytes());
+        if isonkaypu::check_image(&limit.image).is_ok() {
+            let (image, source) = fitted(&limit.image, &mut chance, nasty);
+            is_matched(&image, &source);
+        }
     }
 }
 
 /// A source of one long line.
 #[test]
 fn a_long_line() {
-    let source = "ä\t".repeat(200_000);
+    let mut chance = Chance::new(9);
     let names = "contract C { invariant a + b + c + d; invariant ".to_string() + &"a + ".repeat(50) + "a; }";
-    is_shown(&example::image(&names), source.as_bytes());
+    let (image, source) = fitted(&example::image(&names), &mut chance, |_| "ä\t".repeat(3_000).into_bytes());
+    assert!(source.len() > 400_000);
+    is_matched(&image, &source);
 }

@@ -5,7 +5,8 @@ mod common;
 use common::chance::Chance;
 use common::pages::{hostile, pages};
 use common::tags::{Tag, tags};
-use common::{crossing, images, mended, respanned, sample, shown, shown_source, shown_ward};
+use common::{crossing, fitted, images, mended, respanned, respanned_but_names};
+use common::{shown, shown_source, shown_ward};
 use std::collections::HashSet;
 
 /// The elements and attributes that the page is made of; nothing else may ever stand in it.
@@ -135,8 +136,9 @@ fn one_example_for_each_code() {
 /// Where no place lies in the text, the page says so of every fault, and marks nothing.
 #[test]
 fn places_outside_are_told() {
-    let image = respanned(&sample("ward.image"), |_| (5, 4));
-    let html = shown(show::html, "x", &image, Some(b"another text"));
+    let source = "contract C { state { s: u8; } entry e() { emit A(); s = 1; f(); } }";
+    let image = respanned_but_names(&example::image(source), |_| (5, 4));
+    let html = shown(show::html, "x", &image, Some(source.as_bytes()));
     sound(&html);
     let warning = between(&html, "<p class=\"warning\">", "</p>");
     assert!((1..=3).all(|n| warning.contains(&format!("#fault-{n}"))), "{warning}");
@@ -148,8 +150,8 @@ fn crossing_spans_are_all_marked() {
     let html = crossing(show::html);
     let tags = sound(&html);
     let ids: HashSet<&str> = values(&tags, "id").into_iter().collect();
-    assert!(["here-1", "here-2", "here-3"].iter().all(|id| ids.contains(id)));
-    assert!(html.contains("is not in this text"), "the related place lies outside");
+    assert!(["here-2", "here-3", "here-4"].iter().all(|id| ids.contains(id)));
+    assert_eq!(html.matches("is not in this text").count(), 2, "a place and a related place lie outside");
 }
 
 #[test]
@@ -198,20 +200,25 @@ fn plain(html: &str) -> String {
 fn the_text_is_all_there() {
     for (seed, image) in (0..300).zip(images().iter().cycle()) {
         let mut chance = Chance::new(seed);
-        let length = chance.below(120);
-        let source: String =
-            (0..length).map(|_| ['a', 'b', ' ', 'é', '\n', '\t', ';'][chance.below(7)]).collect();
-        let image = respanned(image, |_| {
-            let (from, to) = chance.span(source.len());
-            let whole =
-                |at: u32| if source.is_char_boundary(at as usize) { at } else { at.saturating_add(1) };
-            (whole(from), whole(to))
+        let (image, source) = fitted(image, &mut chance, |chance| {
+            let length = chance.below(12);
+            let chars = (0..length).map(|_| ['a', 'b', ' ', 'é', '\n', '\t', ';'][chance.below(7)]);
+            chars.collect::<String>().into_bytes()
         });
+        let source = String::from_utf8(source).expect("text");
+        let image = whole_chars(&image, &source);
         let html = shown(show::html, "x", &image, Some(source.as_bytes()));
         let shown = text_of(&html).join("\n");
         // a line end at the end begins no line, unless something is marked behind it
         assert!(shown == source || format!("{shown}\n") == source, "{source:?} is shown as {shown:?}");
     }
+}
+
+/// The image with every span moved to where characters begin.
+fn whole_chars(image: &[u8], source: &str) -> Vec<u8> {
+    let tree = form::Tree::of(image).expect("a tree");
+    let whole = |at: u32| if source.is_char_boundary(at as usize) { at } else { at.saturating_add(1) };
+    respanned(image, |i| (whole(tree.nodes[i].from), whole(tree.nodes[i].to)))
 }
 
 /// Any bytes as source, any label and any span words give a sound page.
@@ -224,6 +231,13 @@ fn anything_gives_a_sound_page() {
         let label = String::from_utf8_lossy(&chance.nasty(8)).into_owned();
         let image = respanned(image, |_| chance.span(source.len()));
         sound(&shown(show::html, &label, &image, Some(&source)));
+        let (image, source) = fitted(&image, &mut chance, |chance| {
+            let length = chance.below(8);
+            if seed % 3 == 0 { chance.bytes(length) } else { chance.nasty(length) }
+        });
+        let html = shown(show::html, &label, &image, Some(&source));
+        sound(&html);
+        assert!(html.contains("<div class=\"code\""), "the text is shown");
     }
 }
 

@@ -4,7 +4,7 @@ mod common;
 
 use common::chance::Chance;
 use common::json::Json;
-use common::{images, respanned, sample, shown, shown_source, shown_ward};
+use common::{fitted, images, respanned, sample, shown, shown_source, shown_ward};
 
 const KEYS: &[&str] = &[
     "complete",
@@ -98,9 +98,24 @@ fn anything_is_read_back() {
         let length = chance.below(60);
         let source = chance.nasty(length);
         let label = String::from_utf8_lossy(&chance.nasty(8)).into_owned();
-        let image = respanned(image, |_| chance.span(source.len()));
-        let json = Json::read(&shown(show::json, &label, &image, Some(&source)));
-        assert_eq!(json.at("label").text(), label);
-        assert!(!json.at("offences").list().is_empty());
+        let other = respanned(image, |_| chance.span(source.len()));
+        let fits = fitted(image, &mut chance, |chance| chance.nasty(3));
+        for (image, source, state) in [(&other, &source, "other"), (&fits.0, &fits.1, "same")] {
+            let json = Json::read(&shown(show::json, &label, image, Some(source)));
+            assert_eq!([json.at("label").text(), json.at("source/state").text()], [&label, state]);
+            assert!(!json.at("offences").list().is_empty());
+        }
     }
+}
+
+/// Several contracts are a list of the same objects.
+#[test]
+fn several() {
+    let reports = ["contract C { }", "contract C { invariant x; }"]
+        .map(|text| isonkaypu::check_image(&example::image(text)).expect("an image"));
+    let subjects = [show::Subject::checked("a", &reports[0]), show::Subject::checked("b", &reports[1])];
+    let json = Json::read(&show::json_of(&subjects));
+    assert_eq!(json.list().len(), 2);
+    assert_eq!(json.at("0"), &Json::read(&show::json(&subjects[0])));
+    assert_eq!(json.at("1"), &Json::read(&show::json(&subjects[1])));
 }

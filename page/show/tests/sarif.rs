@@ -6,7 +6,7 @@ mod common;
 use common::chance::Chance;
 use common::json::Json;
 use common::pages::hostile;
-use common::{crossing, images, mended, respanned, sample, shown, shown_source, shown_ward};
+use common::{crossing, fitted, images, mended, respanned, sample, shown, shown_source, shown_ward};
 
 /// The type of a property.
 #[derive(Clone, Copy)]
@@ -23,6 +23,8 @@ enum Type {
     Words(&'static [&'static str]),
     /// An object of texts by any keys.
     Texts,
+    /// An absolute URI.
+    Uri,
     /// A property bag: anything.
     Bag,
 }
@@ -57,7 +59,7 @@ const OBJECTS: &[(&str, &[Property])] = &[
         ("id", MUST, Text), ("shortDescription", MAY, Object("multiformatMessageString")),
         ("fullDescription", MAY, Object("multiformatMessageString")),
         ("defaultConfiguration", MAY, Object("reportingConfiguration")),
-        ("help", MAY, Object("multiformatMessageString")),
+        ("help", MAY, Object("multiformatMessageString")), ("helpUri", MAY, Uri),
     ]),
     ("multiformatMessageString", &[("text", MUST, Text), ("markdown", MAY, Text)]),
     ("reportingConfiguration", &[("level", MAY, Word(LEVELS))]),
@@ -78,7 +80,7 @@ const OBJECTS: &[(&str, &[Property])] = &[
     ("result", &[
         ("message", MUST, Object("message")), ("ruleId", MUST, Text), ("ruleIndex", MAY, From(0)),
         ("kind", MAY, Word(KINDS)), ("level", MAY, Word(LEVELS)), ("locations", MAY, Objects(1, "location")),
-        ("relatedLocations", MAY, Objects(1, "location")),
+        ("relatedLocations", MAY, Objects(1, "location")), ("partialFingerprints", MAY, Texts),
     ]),
     ("location", &[
         ("id", MAY, From(0)), ("physicalLocation", MAY, Object("physicalLocation")),
@@ -120,8 +122,21 @@ fn hold_type(json: &Json, ty: Type, path: &str) {
         }
         Words(words) => json.list().iter().for_each(|word| assert!(words.contains(&word.text()), "{path}")),
         Texts => assert!(matches!(json, Json::Object(texts) if texts.values().all(|t| !t.text().is_empty()))),
+        Uri => assert!(is_absolute(json.text()), "{path}: {json:?}"),
         Bag => assert!(matches!(json, Json::Object(_)), "{path}"),
     }
+}
+
+/// A scheme, a colon, and nothing but what a URI may have.
+fn is_absolute(uri: &str) -> bool {
+    let of_a_scheme = |c: char| c.is_ascii_lowercase() || c.is_ascii_digit() || "+-.".contains(c);
+    let of_a_uri = |c: char| c.is_ascii_alphanumeric() || "-._~/%:#".contains(c);
+    uri.split_once(':').is_some_and(|(scheme, rest)| {
+        scheme.starts_with(|c: char| c.is_ascii_lowercase())
+            && scheme.chars().all(of_a_scheme)
+            && !rest.is_empty()
+            && rest.chars().all(of_a_uri)
+    })
 }
 
 /// A log that the standard admits, with what binds its parts to each other.
@@ -158,17 +173,30 @@ fn hold_result(run: &Json, result: &Json) {
         "ruleIndex does not fit"
     );
     let related = result.at("relatedLocations").list();
+    assert!(!result.at("locations").list().is_empty(), "a result without a place");
     for location in result.at("locations").list().iter().chain(related) {
         hold_place(run, location.at("physicalLocation"));
     }
     assert!(related.iter().all(|location| location.at("id").number() > 0), "a related place without an id");
+    hold_links(result.at("message/text").text(), related);
+    for key in ["isonkaypu/v1", "primaryLocationLineHash"] {
+        assert_eq!(result.at("partialFingerprints").member(key).text().len(), 64, "{key}");
+    }
+}
+
+/// Every link of a message leads to a related place, and every related place is linked to. Brackets that
+/// are none stand behind a backslash.
+fn hold_links(message: &str, related: &[Json]) {
+    let bare: String = message.replace("\\\\", "").replace("\\[", "").replace("\\]", "");
+    let links: Vec<&str> =
+        bare.split("](").skip(1).map(|rest| rest.split(')').next().unwrap_or("")).collect();
+    let ids: Vec<String> = related.iter().map(|location| location.at("id").number().to_string()).collect();
+    assert_eq!(links, ids, "{message}");
+    assert_eq!((bare.matches('[').count(), bare.matches(']').count()), (ids.len(), ids.len()), "{message}");
 }
 
 /// The artifact's index fits, its URI has no character that a URI has not, and the region is in order.
 fn hold_place(run: &Json, place: &Json) {
-    if place == &Json::Null {
-        return;
-    }
     let artifact = place.at("artifactLocation");
     let index = artifact.at("index").number();
     assert_eq!(run.at(&format!("artifacts/{index}/location/uri")), artifact.at("uri"));
@@ -179,7 +207,7 @@ fn hold_place(run: &Json, place: &Json) {
         let at = |line: &str, column: &str| (region.at(line).number(), region.at(column).number());
         assert!(at("startLine", "startColumn") <= at("endLine", "endColumn"), "{region:?}");
         let end = region.at("byteOffset").number() + region.at("byteLength").number();
-        assert!(end <= run.at("artifacts/0/length").number(), "{region:?}");
+        assert!(end <= run.at(&format!("artifacts/{index}/length")).number(), "{region:?}");
     }
 }
 
@@ -205,8 +233,14 @@ fn the_rules() {
     let ids: Vec<&str> = rules.iter().map(|rule| rule.at("id").text()).collect();
     let codes = words::CODES.iter().map(u16::to_string);
     let refusals = (1..=8).map(|n| format!("image-{n}"));
-    assert_eq!(ids, codes.chain(refusals).chain(["doubt".to_string()]).collect::<Vec<_>>());
-    for rule in &rules[..rules.len() - 1] {
+    let ours = ["doubt", "other-text"].map(String::from);
+    assert_eq!(ids, codes.chain(refusals).chain(ours).collect::<Vec<_>>());
+    assert!(
+        rules
+            .iter()
+            .all(|rule| rule.at("helpUri").text() == format!("urn:isonkaypu:help:{}", rule.at("id").text()))
+    );
+    for rule in &rules[..rules.len() - 2] {
         for part in ["shortDescription/text", "fullDescription/text", "help/text", "help/markdown"] {
             assert!(rule.at(part).text().len() > 3, "{part} of {:?}", rule.at("id"));
         }
@@ -222,14 +256,18 @@ fn no_image() {
     assert_eq!(run.at("invocations/0/toolExecutionNotifications/0/level").text(), "error");
     assert_eq!(run.at("results").list().len(), 1);
     assert_eq!(run.at("results/0/ruleId").text(), "image-1");
-    assert_eq!(run.at("properties/checked"), &Json::List(vec![]));
+    assert_eq!(run.at("properties/images/0/checked"), &Json::List(vec![]));
 }
 
 #[test]
 fn without_the_source() {
     let log = admitted(&shown(show::sarif, "ward.image", &sample("ward.image"), None));
     for result in log.at("runs/0/results").list() {
-        assert_eq!(result.at("locations/0/physicalLocation"), &Json::Null);
+        let place = result.at("locations/0/physicalLocation");
+        assert_eq!(
+            (place.at("artifactLocation/uri").text(), place.at("region")),
+            ("ward.image", &Json::Null)
+        );
         assert!(
             result.at("locations/0/logicalLocations/0/fullyQualifiedName").text().starts_with("WardStock")
         );
@@ -246,8 +284,61 @@ fn sources_and_spans_of_all_sorts() {
         let pieces = chance.below(60);
         let source = chance.nasty(pieces);
         let label = String::from_utf8_lossy(&chance.nasty(8)).into_owned();
-        let image = respanned(image, |_| chance.span(source.len()));
-        let log = admitted(&shown(show::sarif, &label, &image, Some(&source)));
-        assert!(!log.at("runs/0/results").list().is_empty());
+        let other = respanned(image, |_| chance.span(source.len()));
+        let fits = fitted(image, &mut chance, |chance| chance.nasty(3));
+        for (image, source) in [(&other, &source), (&fits.0, &fits.1)] {
+            let log = admitted(&shown(show::sarif, &label, image, Some(source)));
+            assert!(!log.at("runs/0/results").list().is_empty());
+        }
     }
+}
+
+/// The sentence links to the related place in the words that the place has.
+#[test]
+fn related_places_are_linked() {
+    let log = admitted(&shown_ward(show::sarif));
+    let message = log.at("runs/0/results/2/message/text").text();
+    assert!(message.ends_with(" See [its second use](1)."), "{message}");
+}
+
+/// The fingerprints of a contract's results, in their order.
+fn fingerprints(source: &str) -> Vec<String> {
+    let log = admitted(&shown_source(show::sarif, source));
+    let print = |result: &Json| result.at("partialFingerprints").member("isonkaypu/v1").text().to_string();
+    log.at("runs/0/results").list().iter().map(print).collect()
+}
+
+/// A result keeps its fingerprint when lines move, and no two results of a contract share one.
+#[test]
+fn fingerprints_stay() {
+    let prints = fingerprints(&common::ward());
+    assert_eq!(prints.len(), 3);
+    assert_eq!(fingerprints(&format!("// a remark\n\n{}", common::ward())), prints);
+    let other_amount = common::ward().replace("limit = 500;", "limit = 500; issued = 0;");
+    assert_eq!(fingerprints(&other_amount), prints);
+    let mended_one = common::ward().replace("emit Destroyed();", "");
+    assert_eq!(fingerprints(&mended_one), prints[1..]);
+    let source = "contract C { entry e() { emit A(); emit A(); emit B(); } entry f() { emit A(); } }";
+    let mut prints = fingerprints(source);
+    assert_eq!(prints.len(), 4);
+    prints.sort_unstable();
+    prints.dedup();
+    assert_eq!(prints.len(), 4, "two results have one fingerprint");
+}
+
+/// Several contracts are one run, each result at its own file.
+#[test]
+fn several() {
+    let reports = ["contract C { invariant x; }", "contract D { }", "contract E { invariant y; }"]
+        .map(|text| isonkaypu::check_image(&example::image(text)).expect("an image"));
+    let label = ["a b/c.image", "d.image", "/e.image"];
+    let subjects: Vec<_> =
+        label.iter().zip(&reports).map(|(l, report)| show::Subject::checked(l, report)).collect();
+    let log = admitted(&show::sarif_of(&subjects));
+    assert_eq!(log.at("runs").list().len(), 1);
+    let uri =
+        |result: &Json| result.at("locations/0/physicalLocation/artifactLocation/uri").text().to_string();
+    let uris: Vec<String> = log.at("runs/0/results").list().iter().map(uri).collect();
+    assert_eq!(uris, ["a%20b/c.image", "file:///e.image"]);
+    assert_eq!(log.at("runs/0/properties/images").list().len(), 3);
 }

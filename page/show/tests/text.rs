@@ -34,17 +34,21 @@ fn with_the_source() {
 REFUSED  ward.quanta: 2 faults
 
 [51] entry `issue` changes `issued`, which its `writes` clause does not name
+  ward.quanta:7:9
   7 |         issued = issued + 1;
     |         ^^^^^^^^^^^^^^^^^^^^ changed here
   mend: write `writes stock, issued`, or leave `issued` alone
 
 [62] the lot `lot` is used more than once: stock would count double
+  ward.quanta:4:17
   4 |     entry issue(lot: Q_Asset<Morphine>, to: Q_Address)
     |                 ^^^ this lot
+  ward.quanta:9:21
   9 |         stock.merge(lot);
     |                     --- its second use
   mend: keep one use; to divide a lot use `split`
 
+2 faults: access 1, lots 1
 Checked: names, access, lots. NOT checked: supply (conserve), signed authority
 ";
     assert_eq!(of(WARD), expected);
@@ -56,14 +60,15 @@ fn without_the_source() {
 REFUSED  ward.quanta: 2 faults
 
 [51] entry `issue` changes `issued`, which its `writes` clause does not name
-  node 29, bytes 184 to 204: changed here
+  in entry `issue`, node 29, bytes 184 to 204: changed here
   mend: write `writes stock, issued`, or leave `issued` alone
 
 [62] the lot `lot` is used more than once: stock would count double
-  node 18, bytes 110 to 113: this lot
-  node 44, bytes 248 to 251: its second use
+  in entry `issue`, node 18, bytes 110 to 113: this lot
+  in entry `issue`, node 44, bytes 248 to 251: its second use
   mend: keep one use; to divide a lot use `split`
 
+2 faults: access 1, lots 1
 Checked: names, access, lots. NOT checked: supply (conserve), signed authority
 ";
     assert_eq!(shown(&example::image(WARD), None), expected);
@@ -88,20 +93,30 @@ Nothing was checked.
     assert_eq!(of("contract Empty { state { 3mg: u64; } }"), not_read);
 }
 
-/// A contract with one fault, 50, at the Ident of its invariant.
-const ONE_FAULT: &str = "contract C { invariant x; }";
-/// The node of that Ident.
-const AT: usize = 3;
+/// A contract with one fault, 30, at a node that carries no name, so that its span may be anything.
+const ONE_FAULT: &str = "contract C { entry e() { emit E(); } }";
+/// The node of its `emit`.
+const AT: usize = 4;
+/// What stands above the sources of the tests below: the names that the image has, where it says.
+const ABOVE: &str = "C e E\n";
 
-/// The lines between the sentence and the `mend:` line, for a source and a span of that fault.
+/// The lines between `file:line:column` and the `mend:` line, for a source and a span of that fault, which
+/// counts from the second line on.
 fn excerpt(source: &[u8], from: u32, to: u32) -> String {
-    let mut image = example::image(ONE_FAULT);
-    let at = form::image::HEADER + form::image::NODE * AT + 8;
-    image[at..at + 4].copy_from_slice(&from.to_le_bytes());
-    image[at + 4..at + 8].copy_from_slice(&to.to_le_bytes());
-    let text = shown(&image, Some(source));
-    let lines = text.lines().skip(3).take_while(|line| !line.starts_with("  mend: "));
+    let above = ABOVE.len() as u32;
+    let text = with_span(source, above + from, above + to);
+    let lines = text.lines().skip(4).take_while(|line| !line.starts_with("  mend: "));
     lines.map(|line| format!("{line}\n")).collect()
+}
+
+/// The text for a source below `ABOVE`, with this span.
+fn with_span(source: &[u8], from: u32, to: u32) -> String {
+    let names = [(1, 0), (3, 2), (5, 4)];
+    let image = common::respanned(&example::image(ONE_FAULT), |node| {
+        let name = names.iter().find(|(name, _)| *name == node).map(|(_, at)| (*at, at + 1));
+        name.unwrap_or(if node == AT { (from, to) } else { (7, 3) })
+    });
+    shown(&image, Some(&[ABOVE.as_bytes(), source].concat()))
 }
 
 #[test]
@@ -109,6 +124,8 @@ fn two_places_on_one_line() {
     let text = of("contract C { state { x: u8; x: u8; } }");
     let expected = "\
 [20] the state field `x` is declared twice
+  ward.quanta:1:29
+  ward.quanta:1:22
   1 | contract C { state { x: u8; x: u8; } }
     |                             ^ declared again here
     |                      - declared first here
@@ -118,40 +135,44 @@ fn two_places_on_one_line() {
 
 #[test]
 fn tabs_and_other_letters() {
-    let tabs = "  1 |     a   xy\n    |         ^^ named here\n";
+    let tabs = "  2 |     a   xy\n    |         ^^ emitted here\n";
     assert_eq!(excerpt(b"\ta\txy", 3, 5), tabs);
-    let umlaut = "  1 | ä ö xy\n    |     ^^ named here\n";
+    let umlaut = "  2 | ä ö xy\n    |     ^^ emitted here\n";
     assert_eq!(excerpt("ä ö xy".as_bytes(), 6, 8), umlaut);
-    let wide = "  1 | 木 xy\n    |    ^^ named here\n";
+    let wide = "  2 | 木 xy\n    |    ^^ emitted here\n";
     assert_eq!(excerpt("木 xy".as_bytes(), 4, 6), wide);
-    let in_the_middle = "  1 | ä\n    | ^ named here\n";
+    let in_the_middle = "  2 | ä\n    | ^ emitted here\n";
     assert_eq!(excerpt("ä".as_bytes(), 1, 2), in_the_middle);
-    let broken = "  1 | \u{fffd}\u{fffd}x\n    |   ^ named here\n";
+    let broken = "  2 | \u{fffd}\u{fffd}x\n    |   ^ emitted here\n";
     assert_eq!(excerpt(b"\xff\xfex", 2, 3), broken);
 }
 
 #[test]
 fn ends_of_lines() {
-    let carriage_return = "  2 | x y\n    |   ^ named here\n";
+    let carriage_return = "  3 | x y\n    |   ^ emitted here\n";
     assert_eq!(excerpt(b"a\r\nx y\r\n", 5, 6), carriage_return);
-    let empty_at_the_end = "  1 | ab\n    |   ^ named here\n";
+    let empty_at_the_end = "  2 | ab\n    |   ^ emitted here\n";
     assert_eq!(excerpt(b"ab", 2, 2), empty_at_the_end);
-    let on_the_break = "  1 | ab\n    |   ^ named here\n";
+    let on_the_break = "  2 | ab\n    |   ^ emitted here\n";
     assert_eq!(excerpt(b"ab\r\ncd", 3, 4), on_the_break);
-    let several = "  1 | a bc\n    |   ^^ named here (to line 3)\n";
+    let several = "  2 | a bc\n    |   ^^ emitted here (to line 4)\n";
     assert_eq!(excerpt(b"a bc\nd\ne", 2, 8), several);
-    let to_the_break = "  1 | a bc\n    |   ^^ named here\n";
+    let to_the_break = "  2 | a bc\n    |   ^^ emitted here\n";
     assert_eq!(excerpt(b"a bc\nd\ne", 2, 5), to_the_break);
-    let nothing = "  1 |\n    | ^ named here\n";
+    let nothing = "  2 |\n    | ^ emitted here\n";
     assert_eq!(excerpt(b"", 0, 0), nothing);
 }
 
 #[test]
 fn no_place_in_the_source() {
-    let outside =
-        |from, to| format!("  node 3, bytes {from} to {to}, which is no place in the source: named here\n");
-    for (from, to) in [(2, 1), (0, 4), (4, 4), (u32::MAX, u32::MAX), (u32::MAX, 0)] {
-        assert_eq!(excerpt(b"abc", from, to), outside(from, to));
+    let source = [ABOVE, "abc"].concat();
+    let end = source.len() as u32;
+    for (from, to) in [(2, 1), (0, end + 1), (end + 1, end + 1), (u32::MAX, u32::MAX), (u32::MAX, 0)] {
+        let outside = format!(
+            "  in entry `e`, node 4, bytes {from} to {to}, which is no place in the text: emitted here\n  mend: "
+        );
+        let text = with_span(b"abc", from, to);
+        assert!(text.contains(&outside), "{text}");
     }
 }
 
@@ -159,22 +180,67 @@ fn no_place_in_the_source() {
 fn long_lines_are_cut_around_the_place() {
     let long = format!("{}xy{}", "a".repeat(1000), "b".repeat(1000));
     let expected =
-        format!("  1 | …{}xy{}…\n    | {}^^ named here\n", "a".repeat(40), "b".repeat(78), " ".repeat(41));
+        format!("  2 | …{}xy{}…\n    | {}^^ emitted here\n", "a".repeat(40), "b".repeat(78), " ".repeat(41));
     assert_eq!(excerpt(long.as_bytes(), 1000, 1002), expected);
-    let at_the_start = format!("  1 | {}…\n    | ^ named here\n", "a".repeat(120));
+    let at_the_start = format!("  2 | {}…\n    | ^ emitted here\n", "a".repeat(120));
     assert_eq!(excerpt(long.as_bytes(), 0, 1), at_the_start);
-    let at_the_end = format!("  1 | …{}\n    | {}^ named here\n", "b".repeat(120), " ".repeat(121));
+    let at_the_end = format!("  2 | …{}\n    | {}^ emitted here\n", "b".repeat(120), " ".repeat(121));
     assert_eq!(excerpt(long.as_bytes(), 2002, 2002), at_the_end);
     let all = excerpt(long.as_bytes(), 0, 2002);
-    assert!(all.ends_with(&format!("    | {} named here\n", "^".repeat(120))), "{all}");
+    assert!(all.ends_with(&format!("    | {} emitted here\n", "^".repeat(120))), "{all}");
 }
 
 #[test]
 fn a_terminal_is_not_told_what_to_do() {
-    let escaped = "  1 | \\u{1b}[2J x\n    |           ^ named here\n";
+    let escaped = "  2 | \\u{1b}[2J x\n    |           ^ emitted here\n";
     assert_eq!(excerpt(b"\x1b[2J x", 5, 6), escaped);
     let image = example::image(ONE_FAULT);
     let label = "a\u{1b}[2J\nb";
     let text = common::shown(text, label, &image, None);
     assert!(text.starts_with("REFUSED  a\\u{1b}[2J\\u{a}b: 1 fault\n"), "{text}");
+}
+
+/// Every line of prose fits on a terminal of 100 columns, and no word is lost.
+#[test]
+fn prose_is_wrapped() {
+    let name = "a_rather_long_name_for_an_event";
+    let long = of(&format!("contract C {{ entry e() {{ emit {name}_{name}(); }} }}"));
+    let widest = long.lines().filter(|line| !line.contains(" | ")).map(|line| line.chars().count()).max();
+    assert!(widest <= Some(100) && widest > Some(80), "{long}");
+    assert!(long.lines().any(|line| line.starts_with("     ")) && long.contains("\n        "), "{long}");
+    let joined = |text: &str| text.split_whitespace().collect::<Vec<_>>().join(" ");
+    let fault = words::code(30).expect("30").fault.replace("{name}", &format!("{name}_{name}"));
+    assert!(joined(&long).contains(&joined(&fault)), "{long}");
+}
+
+/// The colours change no word, and stand only where they are asked for.
+#[test]
+fn colours_change_no_word() {
+    let without_colours = |text: &str| {
+        let mut parts = text.split("\u{1b}[");
+        let first = parts.next().unwrap_or_default().to_string();
+        parts.fold(first, |all, part| all + part.split_once('m').expect("a colour ends").1)
+    };
+    let image = example::image(WARD);
+    let texts: [(&[u8], Option<&[u8]>); 5] = [
+        (&image, Some(WARD.as_bytes())),
+        (&image, Some(b"contract")),
+        (&image, None),
+        (b"no image", None),
+        (&example::image("contract C { }"), None),
+    ];
+    for (image, source) in texts {
+        let plain = shown(image, source);
+        let coloured = common::shown(show::text_in_colour, "ward.quanta", image, source);
+        assert!(!plain.contains('\u{1b}') && coloured.contains("\u{1b}[1;3"), "{coloured}");
+        assert_eq!(without_colours(&coloured), plain);
+    }
+}
+
+/// Without the source a fault outside of the entries is told from one inside.
+#[test]
+fn entries_are_named_without_the_source() {
+    let text = shown(&example::image("contract C { invariant x; entry e() { emit E(); } }"), None);
+    assert!(text.contains("  outside of the entries, node 3, bytes 23 to 24: named here\n"), "{text}");
+    assert!(text.contains("  in entry `e`, node 6, "), "{text}");
 }

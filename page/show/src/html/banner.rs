@@ -4,7 +4,8 @@ use super::prose;
 use super::view::{Item, View};
 use crate::about::{self, Check, Gap};
 use crate::fault::counted;
-use crate::{Outcome, escape, list_refused};
+use crate::notice::{self, OtherText};
+use crate::{Outcome, escape, list_refused, looks};
 use isonkaypu::{Doubt, Pass, Report};
 
 /// How many faults the banner names one by one.
@@ -21,6 +22,7 @@ struct Answer {
 /// The answer in a few words, without names: for the title of the page and of the banner.
 pub fn title(view: &View) -> String {
     match view.subject.report() {
+        Some(_) if view.subject.other_text().is_some() => "Text and image do not match".to_string(),
         Some(report) if report.accepted() => "Accepted".to_string(),
         Some(report) if list_refused(report) => "Refused: more faults than can be listed".to_string(),
         Some(report) if !report.doubts().is_empty() => "Refused: the answers are in doubt".to_string(),
@@ -31,6 +33,9 @@ pub fn title(view: &View) -> String {
 
 fn answer(view: &View) -> Answer {
     let title = title(view);
+    if let Some(other) = notice::other_text(view.subject) {
+        return other_text(view, title, &other);
+    }
     match view.subject.outcome() {
         Outcome::Checked(report) if report.accepted() => Answer {
             class: "accepted",
@@ -51,9 +56,32 @@ fn answer(view: &View) -> Answer {
                 doubts(report) + &summary(view)
             ),
         },
-        Outcome::NoImage { refusal, .. } => unread(title, why(refusal.number(), &refusal)),
+        Outcome::NoImage { refusal, .. } => unread(title, hint(view) + &why(refusal.number(), &refusal)),
         Outcome::NotPacked(error) => unread(title, why(error.number(), &error)),
     }
+}
+
+/// The image was checked, but the text that was given with it is another one: no answer on that text.
+fn other_text(view: &View, title: String, other: &OtherText) -> Answer {
+    let alone = match view.subject.report().is_some_and(Report::accepted) {
+        true => "The image alone has no fault.".to_string(),
+        false => format!("The image alone is refused: {}.", counted(view.count())),
+    };
+    let doubts = view.subject.report().map_or(String::new(), doubts);
+    let html = format!(
+        "<p>{}</p><p><strong>What to do:</strong> {}.</p><p>{alone} {}</p>{doubts}{}",
+        prose::sentence(&other.says),
+        prose::line(notice::OTHER_TEXT_MEND),
+        prose::line(&other.unsaid),
+        summary(view),
+    );
+    Answer { class: "other", title, drawing: "M6 9h12M6 15h12M16 5L8 19", html }
+}
+
+/// A word to those who gave a text where an image belongs.
+fn hint(view: &View) -> String {
+    let said = || format!("<p><strong>{}.</strong></p>", prose::sentence(looks::TEXT_FOR_IMAGE));
+    if looks::text_for_image(view.subject) { said() } else { String::new() }
 }
 
 fn unread(title: String, why: String) -> Answer {
@@ -80,6 +108,9 @@ fn doubts(report: &Report) -> String {
 
 /// The first faults in a sentence each, and how many more there are.
 fn summary(view: &View) -> String {
+    if view.count() == 0 {
+        return String::new();
+    }
     let row = |item: &Item| {
         format!("<li><a href=\"#fault-{}\">{}</a></li>", item.number, prose::sentence(&item.fault.sentence))
     };
@@ -127,9 +158,13 @@ pub fn checked(view: &View) -> String {
     if rows.is_empty() {
         return rows;
     }
+    let (class, title) = match view.subject.other_text() {
+        Some(_) => ("box alone", "Checked, of the image alone"),
+        None => ("box", "Checked"),
+    };
     format!(
-        "<section class=\"box\" aria-labelledby=\"checked\"><h2 id=\"checked\">Checked</h2><ul class=\"checks\">{rows}\
-         </ul></section>\n"
+        "<section class=\"{class}\" aria-labelledby=\"checked\"><h2 id=\"checked\">{title}</h2><ul class=\"checks\">\
+         {rows}</ul></section>\n"
     )
 }
 

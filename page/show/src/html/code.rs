@@ -5,7 +5,7 @@ use super::pieces::{Line, Piece, Spot, lines};
 use super::prose;
 use super::view::{Item, View};
 use crate::region::Region;
-use crate::{Mark, Source, escape};
+use crate::{Mark, Source, Text, escape, notice};
 
 /// A mark in the source: a fault's place or its related place.
 struct Marked<'a> {
@@ -49,16 +49,30 @@ impl Marked<'_> {
 
 /// The section with the source, or a word on why there is none.
 pub fn section(view: &View) -> String {
-    match &view.source {
-        Some(source) => with_source(view, source),
-        None if view.count() == 0 => String::new(),
-        None => {
-            "<section class=\"box\" aria-labelledby=\"source\"><h2 id=\"source\">The contract’s text</h2>\
-                 <p>The text of the contract was not given with it. Places are named by the entry and by the \
-                 number of the part (“node”) in the packed contract.</p></section>\n"
-                .to_string()
-        }
+    match (&view.source, view.subject.text()) {
+        (Some(source), _) => with_source(view, source),
+        (None, Text::NotGiven | Text::NotHeld { .. }) if view.count() == 0 => String::new(),
+        (None, _) => without_source(view),
     }
+}
+
+fn without_source(view: &View) -> String {
+    let why = match view.subject.text() {
+        Text::Other { .. } => {
+            "The text that was given is not the one that this contract was packed from.".into()
+        }
+        _ => notice::not_shown(view.subject)
+            .unwrap_or("The text of the contract was not given with it.".into()),
+    };
+    let named = match view.count() {
+        0 => "",
+        _ => " Places are named by the entry and by the number of the part (“node”) in the packed contract.",
+    };
+    format!(
+        "<section class=\"box\" aria-labelledby=\"source\"><h2 id=\"source\">The contract’s text</h2><p>{}{named}</p>\
+         </section>\n",
+        prose::line(&why)
+    )
 }
 
 fn with_source(view: &View, source: &Source) -> String {

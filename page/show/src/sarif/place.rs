@@ -1,5 +1,5 @@
-//! The places of a SARIF log: lines and columns where the source is at hand, else names and node
-//! numbers.
+//! The places of a SARIF log: lines and columns where the source is shown, else the image's file with
+//! names and node numbers.
 
 use super::{rules, source};
 use crate::json::value::{Value, list, object};
@@ -10,14 +10,16 @@ use form::Tree;
 /// What places are made from.
 pub struct Places<'a> {
     uri: String,
+    /// Where the file stands among the artifacts.
+    artifact: usize,
     source: Option<Source<'a>>,
     tree: Option<Tree<'a>>,
 }
 
 impl<'a> Places<'a> {
-    pub fn of(subject: &'a Subject) -> Places<'a> {
+    pub fn of(subject: &'a Subject, artifact: usize) -> Places<'a> {
         let tree = subject.report().and_then(|report| report.tree());
-        Places { uri: escape::uri(subject.label()), source: source(subject), tree }
+        Places { uri: escape::uri(subject.label()), artifact, source: source(subject), tree }
     }
 
     /// The file as a whole.
@@ -30,19 +32,18 @@ impl<'a> Places<'a> {
         self.location(mark).with("id", Some(id.into()))
     }
 
-    /// A mark as a location: in the source, where the span lies in it, and in the contract's tree.
+    /// A mark as a location: in the source, where it is shown and the span lies in it, else in the file,
+    /// and in the contract's tree.
     pub fn location(&self, mark: &Mark) -> Value {
         let region = Region::of(self.source.as_ref(), mark.span);
-        let physical = self.source.as_ref().map(|_| self.physical(region.as_ref()));
-        Value::Object(Vec::new())
-            .with("physicalLocation", physical)
+        object([("physicalLocation", self.physical(region.as_ref()))])
             .with("logicalLocations", Some(list([self.logical(mark.node)])))
             .with("message", Some(rules::message(&mark.label)))
             .with("properties", Some(numbers(mark)))
     }
 
     fn physical(&self, region: Option<&Region>) -> Value {
-        let artifact = object([("uri", self.uri.as_str().into()), ("index", 0usize.into())]);
+        let artifact = object([("uri", self.uri.as_str().into()), ("index", self.artifact.into())]);
         object([("artifactLocation", artifact)]).with("region", region.map(of_region))
     }
 

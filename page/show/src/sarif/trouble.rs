@@ -1,18 +1,26 @@
 //! What a SARIF log says of the run itself: what kept the checks from running well, and what they do
 //! not look at.
 
-use super::rules::{DOUBT, DOUBT_ID, described, message, refusal_id, refusals};
+use super::rules::{DOUBT, DOUBT_ID, OTHER_TEXT, OTHER_TEXT_ID, described, message, refusal_id, refusals};
 use crate::json::value::{Value, list, object};
-use crate::{Outcome, Subject, about};
+use crate::{Outcome, Subject, about, looks, notice};
 use isonkaypu::Doubt;
 
 /// The notification that says what was not checked.
 const NOT_CHECKED_ID: &str = "not-checked";
 
-/// What a notification can be about: a refusal, a doubt, or what was not checked.
+/// The notification that says that a text was not shown, and why.
+const NOT_SHOWN_ID: &str = "text-not-shown";
+
+/// What a notification can be about: a refusal, a doubt, a text, or what was not checked.
 fn descriptors() -> Vec<(String, &'static str)> {
     let refused = refusals().map(|entry| (refusal_id(entry.number), entry.title.as_str()));
-    let others = [(DOUBT_ID, DOUBT), (NOT_CHECKED_ID, "what was not checked")];
+    let others = [
+        (DOUBT_ID, DOUBT),
+        (OTHER_TEXT_ID, OTHER_TEXT),
+        (NOT_SHOWN_ID, "the text was not shown, nor compared with the image"),
+        (NOT_CHECKED_ID, "what was not checked"),
+    ];
     refused.chain(others.map(|(id, text)| (id.to_string(), text))).collect()
 }
 
@@ -26,35 +34,44 @@ pub struct Trouble {
     pub says: String,
 }
 
-impl Trouble {
-    pub fn notification(&self) -> Value {
-        notification(&self.id, "error", &self.says)
-    }
+/// Every notification on a subject.
+pub fn notifications(subject: &Subject) -> Vec<Value> {
+    let troubles = troubles(subject).into_iter().map(|one| notification(&one.id, "error", &one.says));
+    let not_shown = notice::not_shown(subject).map(|says| notification(NOT_SHOWN_ID, "warning", &says));
+    troubles.chain(not_shown).chain([not_checked(subject)]).collect()
 }
 
-/// Why the image could not be read, or why the answers are in doubt.
+/// Why the image could not be read, why the answers are in doubt, that the text is another one.
 pub fn troubles(subject: &Subject) -> Vec<Trouble> {
-    match subject.outcome() {
+    let other =
+        notice::other_text(subject).map(|other| Trouble { id: OTHER_TEXT_ID.to_string(), says: other.says });
+    let of_the_image = match subject.outcome() {
         Outcome::Checked(report) => report.doubts().iter().map(doubted).collect(),
-        Outcome::NoImage { refusal, .. } => vec![refused(refusal.number().into())],
-        Outcome::NotPacked(error) => vec![refused(error.number().into())],
-    }
+        Outcome::NoImage { refusal, .. } => vec![refused(subject, refusal.number().into())],
+        Outcome::NotPacked(error) => vec![refused(subject, error.number().into())],
+    };
+    of_the_image.into_iter().chain(other).collect()
 }
 
 fn doubted(doubt: &Doubt) -> Trouble {
     Trouble { id: DOUBT_ID.to_string(), says: format!("{}: {doubt}.", about::capital(DOUBT)) }
 }
 
-fn refused(number: u16) -> Trouble {
+fn refused(subject: &Subject, number: u16) -> Trouble {
     let title = words::refusal(number).map_or("it is no image", |words| &words.title);
-    let says = format!("The contract could not be read, and nothing was checked: {title} (image {number}).");
+    let hint = match looks::text_for_image(subject) {
+        true => format!(" {}.", about::capital(looks::TEXT_FOR_IMAGE)),
+        false => String::new(),
+    };
+    let says =
+        format!("The contract could not be read, and nothing was checked: {title} (image {number}).{hint}");
     Trouble { id: refusal_id(number), says }
 }
 
 /// The notification that keeps a reader from taking more for checked than was.
-pub fn not_checked(subject: &Subject) -> Value {
+fn not_checked(subject: &Subject) -> Value {
     let gaps = about::not_checked(subject).iter().map(|gap| gap.word).collect::<Vec<_>>().join(", ");
-    notification(NOT_CHECKED_ID, "note", &format!("Not checked: {gaps}."))
+    notification(NOT_CHECKED_ID, "note", &format!("Not checked of {}: {gaps}.", subject.label()))
 }
 
 fn notification(id: &str, level: &'static str, text: &str) -> Value {

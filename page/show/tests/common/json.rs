@@ -28,7 +28,8 @@ impl Json {
         path.split('/').filter(|key| !key.is_empty()).fold(self, |value, key| value.member(key))
     }
 
-    fn member(&self, key: &str) -> &Json {
+    /// The member of this name; null where there is none.
+    pub fn member(&self, key: &str) -> &Json {
         match self {
             Json::Object(members) => members.get(key).unwrap_or(&Json::Null),
             Json::List(items) => key.parse::<usize>().ok().and_then(|i| items.get(i)).unwrap_or(&Json::Null),

@@ -2,7 +2,9 @@
 
 #![allow(dead_code)] // each test program takes its own part
 
+use chance::Chance;
 use form::image::{HEADER, NODE};
+use form::{Tree, kind};
 use isonkaypu::check_image;
 use show::Subject;
 use std::path::Path;
@@ -45,15 +47,24 @@ pub fn mended() -> String {
         )
 }
 
-/// Shows an image, with a source or without, in one form.
+/// Shows an image, with a source or without, in one form; both have the same label.
 pub fn shown(form: fn(&Subject) -> String, label: &str, image: &[u8], source: Option<&[u8]>) -> String {
+    shown_with(form, (label, image), source.map(|source| (label, source)))
+}
+
+/// The same with a label for each.
+pub fn shown_with(
+    form: fn(&Subject) -> String,
+    (label, image): (&str, &[u8]),
+    source: Option<(&str, &[u8])>,
+) -> String {
     let checked = check_image(image);
     let subject = match &checked {
         Ok(report) => Subject::checked(label, report),
         Err(refusal) => Subject::no_image(label, image, *refusal),
     };
     form(&match source {
-        Some(source) => subject.with_source(source),
+        Some((name, source)) => subject.with_source(name, source),
         None => subject,
     })
 }
@@ -76,10 +87,41 @@ pub fn respanned(image: &[u8], mut span: impl FnMut(usize) -> (u32, u32)) -> Vec
     image
 }
 
+/// As `respanned`, but the nodes that carry a name keep their spans, so that a source still fits.
+pub fn respanned_but_names(image: &[u8], mut span: impl FnMut(usize) -> (u32, u32)) -> Vec<u8> {
+    let tree = Tree::of(image).expect("a tree");
+    respanned(image, |i| match tree.nodes[i] {
+        node if kind::carries_a_name(node.kind) => (node.from, node.to),
+        _ => span(i),
+    })
+}
+
+/// An image and a source that fit each other, whatever else stands in the source: the image's names, each
+/// with blanks around it, between pieces that `piece` makes. Nodes that carry no name have spans by chance.
+pub fn fitted(
+    image: &[u8],
+    chance: &mut Chance,
+    mut piece: impl FnMut(&mut Chance) -> Vec<u8>,
+) -> (Vec<u8>, Vec<u8>) {
+    let tree = Tree::of(image).expect("a tree");
+    let mut source = Vec::new();
+    let mut names = vec![None; tree.len()];
+    for (i, node) in tree.nodes.iter().enumerate().filter(|(_, node)| kind::carries_a_name(node.kind)) {
+        source.extend(piece(chance));
+        source.push(b' ');
+        names[i] = Some((source.len() as u32, (source.len() + node.text.len()) as u32));
+        source.extend(node.text);
+        source.push(b' ');
+    }
+    source.extend(piece(chance));
+    (respanned(image, |i| names[i].unwrap_or_else(|| chance.span(source.len()))), source)
+}
+
 /// The ward's contract with spans that lie in each other, cross each other, run over lines, are empty
-/// and lie outside.
+/// and lie outside: a `let` that is there twice is the related place of one fault and the place of another.
 pub fn crossing(form: fn(&Subject) -> String) -> String {
-    let source = ward();
+    let again = "let part = stock.get(ward).split(amount);";
+    let source = ward().replace("send(pharmacist, part);", again);
     let image = example::image(&source);
     let at = |text: &str| source.find(text).expect("it is there") as u32;
     let spans = [
@@ -87,13 +129,15 @@ pub fn crossing(form: fn(&Subject) -> String) -> String {
         (at("let part"), at("part);") + 4),
         (at("amount);"), at("amount);")),
     ];
-    let mut offence = 0..;
+    let mut other = 0..;
     let report = check_image(&image).expect("an image");
+    let codes: Vec<u16> = report.offences().iter().map(|offence| offence.code).collect();
+    assert_eq!(codes, [27, 30, 51, 61]);
     let places: Vec<usize> = report.offences().iter().map(|offence| offence.place.node).collect();
-    let other = u32::try_from(source.len()).expect("a short source") + 7;
-    let image = respanned(&image, |node| match places.iter().position(|place| *place == node) {
-        Some(i) => spans[i],
-        None => (offence.next().unwrap_or(0), other),
+    let outside = u32::try_from(source.len()).expect("a short source") + 7;
+    let image = respanned_but_names(&image, |node| match places.iter().position(|place| *place == node) {
+        Some(i) if i < spans.len() => spans[i],
+        _ => (other.next().unwrap_or(0), outside),
     });
     shown(form, "ward.quanta", &image, Some(source.as_bytes()))
 }

@@ -1,6 +1,6 @@
 //! The pages that are looked at: one of each sort.
 
-use super::{mended, sample, shown, shown_source, shown_ward};
+use super::{mended, sample, shown, shown_source, shown_ward, shown_with};
 use show::Subject;
 
 pub struct Page {
@@ -71,6 +71,35 @@ pub fn pages() -> Vec<Page> {
         page("no-source", "Refused: 3 faults", 3, shown(html, "ward.image", &sample("ward.image"), None)),
         page("hostile", "Refused: 3 faults", 3, hostile(html)),
         page("many", "Refused: 18 faults", 18, shown_source(html, MANY)),
-        page("crossing", "Refused: 3 faults", 3, super::crossing(html)),
+        page("crossing", "Refused: 4 faults", 4, super::crossing(html)),
+        page("other-text", "Text and image do not match", 3, other_text(html)),
+        page("other-text-accepted", "Text and image do not match", 0, other_text_accepted(html)),
+        page("too-long", "Accepted", 0, too_long(html)),
+        page(
+            "text-for-image",
+            "Could not be read",
+            0,
+            shown(html, "ward.quanta", &sample("ward.quanta"), None),
+        ),
     ]
+}
+
+/// The ward's contract with a text that has one remark more.
+pub fn other_text(form: fn(&Subject) -> String) -> String {
+    let text = format!("// checked by A. B.\n{}", super::ward());
+    shown_with(form, ("ward.image", &sample("ward.image")), Some(("other.quanta", text.as_bytes())))
+}
+
+/// The same of a contract without faults.
+pub fn other_text_accepted(form: fn(&Subject) -> String) -> String {
+    let text = format!("// checked by A. B.\n{}", mended());
+    let image = example::image(&mended());
+    shown_with(form, ("ward.image", &image), Some(("other.quanta", text.as_bytes())))
+}
+
+/// A contract with a text that is too long to be shown.
+pub fn too_long(form: fn(&Subject) -> String) -> String {
+    let text = mended() + &" ".repeat(show::LONGEST_SOURCE);
+    let image = example::image(&mended());
+    shown_with(form, ("ward.image", &image), Some(("long.quanta", text.as_bytes())))
 }
