@@ -64,7 +64,7 @@ fn about(subject: &Subject) -> String {
         subject.image().map_or(String::new(), |image| row("Packed contract (SHA-256)", digest(image))),
         match subject.text() {
             Text::Shown { bytes, .. } => row("Text shown (SHA-256)", digest(bytes)),
-            Text::Other { bytes, .. } => row("Another text, not shown (SHA-256)", digest(bytes)),
+            Text::Other { bytes, .. } => row("Other text, not shown", digest(bytes)),
             _ => String::new(),
         },
         row("Checker", format!("{TOOL} {VERSION}")),

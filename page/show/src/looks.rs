@@ -34,6 +34,11 @@ pub fn mend<'w>(subject: &Subject, words: &'w Entry) -> &'w str {
     if text_for_image(subject) { TEXT_FOR_IMAGE } else { &words.mend }
 }
 
+/// How to mend a refusal of this subject, at length.
+pub fn how<'w>(subject: &Subject, words: &'w Entry) -> &'w str {
+    if text_for_image(subject) { TEXT_FOR_IMAGE } else { &words.how }
+}
+
 #[cfg(test)]
 mod tests {
     use super::*;

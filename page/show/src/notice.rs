@@ -29,9 +29,9 @@ pub fn other_text(subject: &Subject) -> Option<OtherText> {
 pub fn not_shown(subject: &Subject) -> Option<String> {
     match subject.text() {
         Text::TooLong { name } => Some(format!(
-            "The text `{}` is too long to show, and was not compared with the image: it has more than {} bytes.",
+            "The text `{}` is too long to show, and was not compared with the image: it has more than {} MiB.",
             safe(name),
-            LONGEST_SOURCE
+            LONGEST_SOURCE >> 20
         )),
         _ => None,
     }

@@ -10,6 +10,8 @@ const TEXT: &[(&str, &str)] = &[
     ("text", "also"),
     ("quiet", "page"),
     ("quiet", "paper"),
+    ("quiet", "mark"),
+    ("quiet", "also"),
     ("link", "page"),
     ("link", "paper"),
     ("bad-text", "bad-paper"),

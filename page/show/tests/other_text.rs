@@ -257,6 +257,8 @@ fn a_text_where_an_image_belongs() {
             assert!(shown.contains("this looks like the text of a contract, not like its image"), "{shown}");
         }
     }
+    let page = shown(show::html, "ward.quanta", ward().as_bytes(), None);
+    assert!(!page.contains("Tell the page"), "nobody else is to be asked");
     for image in images() {
         for no_text in [&image[..image.len() - 1], &image[..20], b"", b"\0\0"] {
             let shown = shown(show::text, "x", no_text, None);

@@ -56,8 +56,8 @@ fn answer(view: &View) -> Answer {
                 doubts(report) + &summary(view)
             ),
         },
-        Outcome::NoImage { refusal, .. } => unread(title, hint(view) + &why(refusal.number(), &refusal)),
-        Outcome::NotPacked(error) => unread(title, why(error.number(), &error)),
+        Outcome::NoImage { refusal, .. } => unread(title, why(view, refusal.number(), &refusal)),
+        Outcome::NotPacked(error) => unread(title, why(view, error.number(), &error)),
     }
 }
 
@@ -76,12 +76,6 @@ fn other_text(view: &View, title: String, other: &OtherText) -> Answer {
         summary(view),
     );
     Answer { class: "other", title, drawing: "M6 9h12M6 15h12M16 5L8 19", html }
-}
-
-/// A word to those who gave a text where an image belongs.
-fn hint(view: &View) -> String {
-    let said = || format!("<p><strong>{}.</strong></p>", prose::sentence(looks::TEXT_FOR_IMAGE));
-    if looks::text_for_image(view.subject) { said() } else { String::new() }
 }
 
 fn unread(title: String, why: String) -> Answer {
@@ -123,7 +117,7 @@ fn summary(view: &View) -> String {
 }
 
 /// Why an image could not be read, in the words of its refusal.
-fn why(number: u8, error: &dyn std::fmt::Display) -> String {
+fn why(view: &View, number: u8, error: &dyn std::fmt::Display) -> String {
     let Some(words) = words::refusal(number.into()) else {
         return format!("<p>{}</p>", escape::html(&error.to_string()));
     };
@@ -135,7 +129,7 @@ fn why(number: u8, error: &dyn std::fmt::Display) -> String {
         words.number,
         part("What it means", &words.means),
         part("Why it matters", &words.matters),
-        part("What to do", &words.how),
+        part("What to do", looks::how(view.subject, words)),
     )
 }
 

@@ -123,7 +123,7 @@ const ALSO: &str = " A <mark class=\"also\">broken line</mark> with <span class=
                     place of the same fault.";
 const INSIDE: &str = " A <mark class=\"here inside\">double line</mark> belongs to more than one place.";
 
-/// A warning where marks do not lie in the text: it may be another text than the one that was packed.
+/// A warning where marks do not lie in the text. Its names do, so it is not simply another text.
 fn outside(view: &View) -> String {
     let lost = |item: &&Item| item.here.is_none() || item.others.iter().any(Option::is_none);
     let links: Vec<String> = view
@@ -135,8 +135,8 @@ fn outside(view: &View) -> String {
         return String::new();
     }
     format!(
-        "<p class=\"warning\"><strong>Not every place lies in this text:</strong> {}. It may not be the text \
-         that was packed.</p>\n",
+        "<p class=\"warning\"><strong>Not every place lies in this text:</strong> {}. The names of the contract \
+         stand where they should, but these places do not; the page’s engineer should look.</p>\n",
         links.join(", ")
     )
 }

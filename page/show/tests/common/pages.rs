@@ -72,6 +72,7 @@ pub fn pages() -> Vec<Page> {
         page("hostile", "Refused: 3 faults", 3, hostile(html)),
         page("many", "Refused: 18 faults", 18, shown_source(html, MANY)),
         page("crossing", "Refused: 4 faults", 4, super::crossing(html)),
+        page("long", "Refused: 4 faults", 4, long(html)),
         page("other-text", "Text and image do not match", 3, other_text(html)),
         page("other-text-accepted", "Text and image do not match", 0, other_text_accepted(html)),
         page("too-long", "Accepted", 0, too_long(html)),
@@ -82,6 +83,17 @@ pub fn pages() -> Vec<Page> {
             shown(html, "ward.quanta", &sample("ward.quanta"), None),
         ),
     ]
+}
+
+/// Names as long as an image may have them, lines without end, and a label to match.
+fn long(form: fn(&Subject) -> String) -> String {
+    let name = |first: char| first.to_string() + &"n".repeat(127);
+    let (a, b, c) = (name('a'), name('b'), name('c'));
+    let source = format!(
+        "contract {a} {{ state {{ {b}: u64; }} entry {c}({a}: Q_Asset<{b}>, {a}: u64) {{ {b} = {a} + {c}; emit {c}(); }} }}"
+    );
+    let label = format!("{}.quanta", "ward-".repeat(60));
+    shown(form, &label, &example::image(&source), Some(source.as_bytes()))
 }
 
 /// The ward's contract with a text that has one remark more.
