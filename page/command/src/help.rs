@@ -11,7 +11,8 @@ usage: isonkaypu check IMAGE... [--source FILE | --sources DIR] [--format text|n
 
 /// `--help`
 pub fn help() -> String {
-    let statuses: String = statuses().iter().map(|s| format!("  {}  {}\n", s.word, s.means)).collect();
+    let statuses: String =
+        statuses().iter().map(|s| format!("  {}  {}\n", s.word, show::wrapped(&s.means, 5, 5))).collect();
     format!("{ABOUT}\n{USAGE}\n\n{COMMANDS}\nExit status:\n{statuses}")
 }
 

@@ -68,8 +68,9 @@ fn checked(check: &Check) -> Result<Answer, String> {
     let subjects: Vec<Subject> = read.iter().map(Read::subject).collect();
     let statuses = subjects.iter().map(status).collect::<Result<Vec<_>, _>>()?;
     let text = formed(check, &subjects, &statuses);
-    let remarks = if check.format == Format::Text { Vec::new() } else { remarks(&subjects) };
     let output = check.output.clone().filter(|path| !files::is_standard(path));
+    let says_it = check.format == Format::Text && output.is_none();
+    let remarks = if says_it { Vec::new() } else { remarks(&subjects) };
     Ok(Answer { text, output, inputs, remarks, status: statuses.into_iter().max().unwrap_or(TROUBLE) })
 }
 
@@ -106,8 +107,8 @@ fn coloured(check: &Check) -> bool {
     }
 }
 
-/// What is said on standard error of texts that are not their images', since not every form can say it
-/// to people.
+/// What is said on standard error of texts that are not their images', where the report does not say it to
+/// people on their terminal.
 fn remarks(subjects: &[Subject]) -> Vec<String> {
     let of = |subject: &Subject| {
         let (name, difference) = subject.other_text()?;

@@ -76,6 +76,13 @@ fn another_text_is_no_answer() {
             ["should have `Ward`, and has `rk`", "should have <code>Ward</code>, and has <code>rk</code>"];
         assert!(says.iter().any(|words| said.contains(words)), "{said}");
     }
+    let report = folder.join("report.txt");
+    let to_a_file = run(&["check", &image, "--source", &other, "-o", report.to_str().expect("a path")]);
+    assert!(
+        to_a_file.status == Some(TROUBLE) && to_a_file.err.contains("is not the text that"),
+        "{}",
+        to_a_file.err
+    );
     let text = run(&["check", &image, "--source", &other]);
     assert!(text.out.starts_with(&format!("OTHER TEXT  {image}\n")) && text.err.is_empty(), "{}", text.out);
     let numbers = run(&["check", &image, "--source", &other, "--format=numbers"]);
@@ -238,6 +245,43 @@ fn colours() {
     assert!(!coloured(&[], "") && !coloured(&["--color=auto"], "") && !coloured(&["--color", "never"], ""));
     assert!(coloured(&["--color=always"], "") && coloured(&["--color=always"], "1"));
     assert!(!coloured(&["--color=always", "--format=json"], ""));
+}
+
+/// On a terminal text is coloured, unless somebody wants no colours. `script` gives it a terminal.
+#[test]
+fn colours_on_a_terminal() {
+    let (image, _) = pair(&folder("terminal"), "ward", FAULTY);
+    let on_a_terminal = |environment: &str, option: &str| {
+        let line =
+            format!("env {environment} '{}' check '{image}' {option}", env!("CARGO_BIN_EXE_isonkaypu"));
+        let output = Command::new("script").args(["-qec", &line, "/dev/null"]).stdin(Stdio::null()).output();
+        Some(String::from_utf8_lossy(&output.ok()?.stdout).into_owned())
+    };
+    let Some(coloured) = on_a_terminal("-u NO_COLOR TERM=xterm", "") else {
+        println!("skipped: `script` is not installed");
+        return;
+    };
+    assert!(coloured.contains("\u{1b}[1;31mREFUSED\u{1b}[0m  "), "{coloured}");
+    for (environment, option) in [
+        ("NO_COLOR=1 TERM=xterm", ""),
+        ("-u NO_COLOR TERM=dumb", ""),
+        ("-u NO_COLOR TERM=xterm", "--color=never"),
+        ("-u NO_COLOR TERM=xterm", "--format=json"),
+        ("-u NO_COLOR TERM=xterm", "| cat"),
+    ] {
+        let plain = on_a_terminal(environment, option).expect("`script` is there");
+        assert!(
+            plain.contains("ward.image") && !plain.contains("\u{1b}["),
+            "{environment} {option}: {plain}"
+        );
+    }
+}
+
+/// No line of the help is too wide for a terminal.
+#[test]
+fn the_help_fits() {
+    let help = run(&["--help"]).out;
+    assert!(help.lines().all(|line| line.chars().count() <= 115), "{help}");
 }
 
 #[test]

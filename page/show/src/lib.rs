@@ -29,6 +29,6 @@ pub use numbers::numbers;
 pub use sarif::{sarif, sarif_of};
 pub use source::Source;
 pub use subject::{LONGEST_SOURCE, Outcome, Subject, Text};
-pub use terminal::safe;
+pub use terminal::{safe, wrapped};
 pub use text::{text, text_in_colour};
 pub use tree::tree;
