@@ -25,6 +25,11 @@ pub fn kit() -> &'static str {
     env!("ISONKAYPU_KIT")
 }
 
+/// What the library was made from: one SHA-256 over the proved crates, in 64 hexadecimal digits.
+pub fn library() -> &'static str {
+    env!("ISONKAYPU_LIBRARY")
+}
+
 fn unset() -> usize {
     usize::from_ne_bytes([UNSET; size_of::<usize>()])
 }
@@ -141,5 +146,12 @@ mod tests {
     fn the_kit_is_one_line() {
         assert!(!kit().trim().is_empty());
         assert_eq!(kit().lines().count(), 1);
+    }
+
+    #[test]
+    fn the_library_is_that_of_the_crates_that_stand_here() {
+        let script = concat!(env!("CARGO_MANIFEST_DIR"), "/made-from");
+        let output = std::process::Command::new(script).output().unwrap();
+        assert_eq!(String::from_utf8(output.stdout).unwrap(), format!("{}\n", library()));
     }
 }

@@ -72,6 +72,12 @@ pub fn kit() -> &'static str {
     isonkaypu_sys::kit()
 }
 
+/// What the proved library was made from: one SHA-256 over the proved crates (`crates.txt` and all of their
+/// sources, specs and proofs), in 64 hexadecimal digits. Reports for people show the first 12.
+pub fn library() -> &'static str {
+    isonkaypu_sys::library()
+}
+
 #[cfg(test)]
 mod tests {
     use super::*;

@@ -19,6 +19,7 @@ pub fn json(subject: &Subject) -> String {
     object([
         ("schema", SCHEMA.into()),
         ("tool", object([("name", TOOL.into()), ("version", VERSION.into())])),
+        ("library", isonkaypu::library().into()),
         ("kit", isonkaypu::kit().into()),
         ("label", subject.label().into()),
         ("image", subject.image().map(bytes).into()),

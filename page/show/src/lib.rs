@@ -17,6 +17,7 @@ mod terminal;
 mod text;
 mod tree;
 
+pub use about::made_by;
 pub use fault::{Fault, Mark, faults, list_refused};
 pub use html::html;
 pub use json::json;

@@ -44,6 +44,7 @@ fn driver() -> Value {
 
 fn properties(subject: &Subject) -> Value {
     object([
+        ("library", isonkaypu::library().into()),
         ("kit", isonkaypu::kit().into()),
         ("complete", is_complete(subject).into()),
         ("imageSha256", subject.image().map(sha256::hex).into()),

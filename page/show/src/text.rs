@@ -1,6 +1,7 @@
 //! A report for people at a terminal: a banner, each fault with its place in the source and how to
 //! mend it, and what was not checked.
 
+use crate::about::made_by;
 use crate::excerpt::Excerpt;
 use crate::fault::{Fault, Mark, counted, faults, list_refused};
 use crate::source::Source;
@@ -12,11 +13,12 @@ use isonkaypu::Report;
 /// span stand instead.
 pub fn text(subject: &Subject) -> String {
     let label = safe(subject.label());
-    match subject.outcome() {
+    let said = match subject.outcome() {
         Outcome::NoImage { refusal, .. } => not_read(&label, refusal.number()),
         Outcome::NotPacked(error) => not_read(&label, error.number()),
         Outcome::Checked(report) => checked(&label, report, subject.source().map(Source::of).as_ref()),
-    }
+    };
+    said + &made_by() + "\n"
 }
 
 fn not_read(label: &str, number: u8) -> String {

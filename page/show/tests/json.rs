@@ -12,6 +12,7 @@ const KEYS: &[&str] = &[
     "image",
     "kit",
     "label",
+    "library",
     "not_checked",
     "offences",
     "outcome",
@@ -32,6 +33,7 @@ fn a_faulty_contract() {
     let json = Json::read(&shown_ward(show::json));
     assert_eq!(keys(&json), KEYS);
     assert_eq!(json.at("outcome/result").text(), "refused");
+    assert_eq!(json.at("library").text(), isonkaypu::library());
     let codes: Vec<u64> = json.at("offences").list().iter().map(|o| o.at("code").number()).collect();
     assert_eq!(codes, [30, 51, 62]);
     for offence in json.at("offences").list() {

@@ -18,9 +18,22 @@ contract WardStock {
 }
 ";
 
-/// The text for an image with a source, or without.
+/// The text for an image with a source, or without, up to its last line, which is always the same.
 fn shown(image: &[u8], source: Option<&[u8]>) -> String {
-    common::shown(text, "ward.quanta", image, source)
+    let text = common::shown(text, "ward.quanta", image, source);
+    text.strip_suffix(&(show::made_by() + "\n")).expect("the last line says who made the report").to_string()
+}
+
+/// The last line: the program, its version, and 12 digits of the library that decided.
+#[test]
+fn who_says_so() {
+    let digits = common::library_digits();
+    let expected = format!("isonkaypu {}, library {digits}", env!("CARGO_PKG_VERSION"));
+    let image = example::image(ONE_FAULT);
+    for bytes in [&image[..], b"no image"] {
+        let text = common::shown(text, "ward.quanta", bytes, None);
+        assert_eq!(text.lines().last(), Some(expected.as_str()));
+    }
 }
 
 /// The text for an example, with itself as the source.

@@ -56,7 +56,7 @@ pub struct Words {
     pub codes: Vec<Entry>,
 }
 
-/// The last line of every report on a contract.
+/// What every report on a contract says at its end.
 pub const CHECKED: &str = "Checked: names, access, lots. NOT checked: supply (conserve), signed authority";
 
 /// The codes of document 01, in the report's order.

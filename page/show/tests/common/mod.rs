@@ -18,6 +18,13 @@ pub fn sample(name: &str) -> Vec<u8> {
     std::fs::read(&path).unwrap_or_else(|error| panic!("{}: {error}", path.display()))
 }
 
+/// What people are shown of the library: the first 12 of 64 hexadecimal digits.
+pub fn library_digits() -> &'static str {
+    let whole = isonkaypu::library();
+    assert!(whole.len() == 64 && whole.bytes().all(|byte| byte.is_ascii_hexdigit()), "{whole}");
+    &whole[..12]
+}
+
 /// The source of the ward's contract, with its faults.
 pub fn ward() -> String {
     String::from_utf8(sample("ward.quanta")).expect("the sample is text")
