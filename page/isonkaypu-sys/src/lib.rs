@@ -3,6 +3,8 @@
 //! This is the only member that is unsafe, and each call is safe for the same reason: the pointers
 //! come from live references, and the lengths are those of the slices.
 
+#![deny(missing_docs)]
+
 mod exported;
 
 use exported::{List, Pass, Question};
@@ -14,9 +16,13 @@ const UNSET: u8 = 0xa5;
 /// refused, else the offence's code.
 #[derive(Clone, Copy, Debug, PartialEq, Eq)]
 pub struct Answer {
+    /// 0, a refusal, or a code.
     pub number: usize,
+    /// The node of the first offence; 0 where there is none.
     pub place: usize,
+    /// That node's first span word.
     pub from: usize,
+    /// That node's second span word.
     pub to: usize,
 }
 
@@ -40,14 +46,17 @@ pub fn refusal(image: &[u8]) -> usize {
     unsafe { exported::isonkaypu_refusal(image.as_ptr(), image.len()) }
 }
 
+/// The verdict of the resolve pass.
 pub fn resolve(image: &[u8]) -> Answer {
     pass(exported::isonkaypu_resolve, image)
 }
 
+/// The verdict of the access pass.
 pub fn access(image: &[u8]) -> Answer {
     pass(exported::isonkaypu_access, image)
 }
 
+/// The verdict of the linear pass.
 pub fn linear(image: &[u8]) -> Answer {
     pass(exported::isonkaypu_linear, image)
 }

@@ -61,7 +61,7 @@ fn refusal_in_words(number: u16) -> Value {
 }
 
 fn verdicts(report: &Report) -> Value {
-    list(Pass::ALL.map(|pass| {
+    list(Pass::ALL.iter().map(|&pass| {
         let verdict = report.verdict(pass);
         object([
             ("pass", pass.word().into()),
@@ -75,7 +75,7 @@ fn verdicts(report: &Report) -> Value {
 }
 
 fn span(span: Span) -> Value {
-    object([("from", span.from.into()), ("to", span.to.into())])
+    object([("from", span.start.into()), ("to", span.end.into())])
 }
 
 /// The faults; where there was no room for the list, the first of each pass, without their names.

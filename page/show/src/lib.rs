@@ -1,5 +1,7 @@
 //! A report in the forms that people and programs read.
 
+#![deny(missing_docs)]
+
 mod about;
 mod blanks;
 mod escape;

@@ -9,7 +9,12 @@ pub enum Outcome<'a> {
     /// Its image was admitted and checked; the report holds the image.
     Checked(&'a Report),
     /// The bytes are no image.
-    NoImage { image: &'a [u8], refusal: ImageRefusal },
+    NoImage {
+        /// The bytes.
+        image: &'a [u8],
+        /// Why they are none.
+        refusal: ImageRefusal,
+    },
     /// It has no image, since it passes a limit of the image form.
     NotPacked(PackError),
 }
@@ -43,10 +48,12 @@ impl<'a> Subject<'a> {
         Subject { source: Some(source), ..self }
     }
 
+    /// What the reader calls it.
     pub fn label(&self) -> &'a str {
         self.label
     }
 
+    /// What became of it.
     pub fn outcome(&self) -> Outcome<'a> {
         self.outcome
     }

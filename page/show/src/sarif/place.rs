@@ -67,7 +67,7 @@ fn name_of(tree: &Tree, node: usize) -> String {
 
 /// The numbers as the image has them.
 fn numbers(mark: &Mark) -> Value {
-    object([("node", mark.node.into()), ("from", mark.span.from.into()), ("to", mark.span.to.into())])
+    object([("node", mark.node.into()), ("from", mark.span.start.into()), ("to", mark.span.end.into())])
 }
 
 fn of_region(region: &Region) -> Value {
