@@ -5,7 +5,8 @@ pub mod value;
 
 use crate::about::{self, TOOL, VERSION};
 use crate::region::Region;
-use crate::{Fault, Mark, Outcome, Source, Subject, faults, sha256};
+use crate::unread::Unread;
+use crate::{Fault, Mark, Source, Subject, faults, sha256};
 use isonkaypu::{Doubt, Pass, Report, Span};
 use value::{Value, list, object};
 
@@ -24,7 +25,7 @@ pub fn json(subject: &Subject) -> String {
         ("label", subject.label().into()),
         ("image", subject.image().map(bytes).into()),
         ("source", subject.source().map(bytes).into()),
-        ("outcome", outcome(subject)),
+        ("outcome", outcome(subject, source.as_ref())),
         ("verdicts", report.map(verdicts).into()),
         ("offences", report.map(|report| offences(report, source.as_ref())).into()),
         ("complete", report.map(|report| report.doubts().is_empty()).into()),
@@ -38,26 +39,32 @@ fn bytes(bytes: &[u8]) -> Value {
     object([("sha256", sha256::hex(bytes).into()), ("length", bytes.len().into())])
 }
 
-fn outcome(subject: &Subject) -> Value {
-    let (result, number) = match subject.outcome() {
-        Outcome::Checked(report) if report.accepted() => ("accepted", None),
-        Outcome::Checked(_) => ("refused", None),
-        Outcome::NoImage { refusal, .. } => ("no image", Some(refusal.number())),
-        Outcome::NotPacked(error) => ("no image", Some(error.number())),
+fn outcome(subject: &Subject, source: Option<&Source>) -> Value {
+    let result = match subject.report() {
+        Some(report) if report.accepted() => "accepted",
+        Some(_) => "refused",
+        None => "no image",
     };
-    let refusal = number.map(|number| refusal_in_words(number.into()));
+    let refusal = Unread::of(subject).map(|unread| refusal_in_words(&unread, source));
     object([("result", result.into()), ("refusal", refusal.into())])
 }
 
-fn refusal_in_words(number: u16) -> Value {
-    let words = words::refusal(number);
+fn refusal_in_words(unread: &Unread, source: Option<&Source>) -> Value {
+    let Unread { number, sentence, mend, span, words } = unread;
     object([
-        ("number", number.into()),
+        ("number", number.map(Value::from).into()),
         ("title", words.map(|w| w.title.as_str()).into()),
+        ("sentence", sentence.as_str().into()),
         ("means", words.map(|w| w.means.as_str()).into()),
         ("matters", words.map(|w| w.matters.as_str()).into()),
-        ("mend", words.map(|w| w.mend.as_str()).into()),
+        ("mend", mend.as_str().into()),
+        ("place", span.map(|span| limit_place(span, source)).into()),
     ])
+}
+
+/// Where a contract passes a limit. It has no node: there is no image.
+fn limit_place(at: Span, source: Option<&Source>) -> Value {
+    object([("span", span(at)), ("region", Region::of(source, at).map(|r| region(&r)).into())])
 }
 
 fn verdicts(report: &Report) -> Value {

@@ -18,6 +18,7 @@ mod subject;
 mod terminal;
 mod text;
 mod tree;
+mod unread;
 
 pub use about::made_by;
 pub use fault::{Fault, Mark, faults, list_refused};

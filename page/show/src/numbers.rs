@@ -6,9 +6,14 @@ use isonkaypu::{Offence, Pass, Place, Report};
 
 /// "It prints `image N` alone on refusal N. Otherwise: per pass a line (name, code, place, two span
 /// words), `list` and the count (or `list refused 9`), per record a line".
+///
+/// Of a contract that has no image, `image N` is what its image would be refused with. Document 01 has no
+/// number, and no line, for an image that does not say what the contract says; then it is `not packed`, which
+/// nobody can take for a line of document 01.
 pub fn numbers(subject: &Subject) -> String {
     match subject.outcome() {
         Outcome::NoImage { refusal, .. } => format!("image {}\n", refusal.number()),
+        Outcome::NotPacked(error) if error.number() == 0 => "not packed\n".to_string(),
         Outcome::NotPacked(error) => format!("image {}\n", error.number()),
         Outcome::Checked(report) => pass_lines(report) + &list(report),
     }

@@ -53,15 +53,16 @@ fn properties(subject: &Subject) -> Value {
     ])
 }
 
-/// What the label names: the source where it is at hand, else the image.
+/// What the label names: the source where it is at hand, else the image. Of a contract that has no image, and
+/// whose text is not at hand, there are no bytes to speak of.
 fn artifact(subject: &Subject) -> Value {
-    let bytes = subject.source().or(subject.image()).unwrap_or_default();
+    let bytes = subject.source().or(subject.image());
     object([
         ("location", object([("uri", escape::uri(subject.label()).into())])),
-        ("length", bytes.len().into()),
         ("roles", list(["analysisTarget"])),
-        ("hashes", object([("sha-256", sha256::hex(bytes).into())])),
     ])
+    .with("length", bytes.map(|bytes| bytes.len().into()))
+    .with("hashes", bytes.map(|bytes| object([("sha-256", sha256::hex(bytes).into())])))
 }
 
 /// Did every check run, and is every answer to be relied on?
@@ -97,7 +98,7 @@ fn result(fault: &Fault, places: &Places) -> Value {
 }
 
 fn trouble_result(trouble: &Trouble, places: &Places) -> Value {
-    of_rule(&trouble.id, &trouble.says).with("locations", Some(list([places.whole()])))
+    of_rule(&trouble.id, &trouble.says).with("locations", Some(list([places.whole(trouble.span)])))
 }
 
 fn of_rule(id: &str, message: &str) -> Value {

@@ -5,26 +5,39 @@ use crate::about::made_by;
 use crate::excerpt::Excerpt;
 use crate::fault::{Fault, Mark, counted, faults, list_refused};
 use crate::source::Source;
-use crate::subject::{Outcome, Subject};
+use crate::subject::Subject;
 use crate::terminal::safe;
-use isonkaypu::Report;
+use crate::unread::Unread;
+use isonkaypu::{Report, Span};
 
 /// The report as text. Where the source is missing, or a place is not in it, the node's number and
 /// span stand instead.
 pub fn text(subject: &Subject) -> String {
     let label = safe(subject.label());
-    let said = match subject.outcome() {
-        Outcome::NoImage { refusal, .. } => not_read(&label, refusal.number()),
-        Outcome::NotPacked(error) => not_read(&label, error.number()),
-        Outcome::Checked(report) => checked(&label, report, subject.source().map(Source::of).as_ref()),
-    };
-    said + &made_by() + "\n"
+    let source = subject.source().map(Source::of);
+    let checked = subject.report().map(|report| checked(&label, report, source.as_ref()));
+    let unread = Unread::of(subject).map(|unread| not_read(&label, &unread, source.as_ref()));
+    checked.or(unread).unwrap_or_default() + &made_by() + "\n"
 }
 
-fn not_read(label: &str, number: u8) -> String {
-    let number = u16::from(number);
-    let (fault, mend) = words::refusal(number).map_or(("", ""), |e| (e.fault.as_str(), e.mend.as_str()));
-    format!("NOT READ  {label}\n\n[image {number}] {fault}\n  mend: {mend}\n\nNothing was checked.\n")
+fn not_read(label: &str, unread: &Unread, source: Option<&Source>) -> String {
+    let Unread { number, sentence, mend, span, .. } = unread;
+    let tag = number.map_or("not packed".to_string(), |number| format!("image {number}"));
+    let place = span.map_or(String::new(), |span| limit_place(span, source));
+    format!("NOT READ  {label}\n\n[{tag}] {sentence}\n{place}  mend: {mend}\n\nNothing was checked.\n")
+}
+
+/// Where a contract passes a limit: its line, or the bytes where the source does not show it.
+fn limit_place(span: Span, source: Option<&Source>) -> String {
+    let Span { start, end } = span;
+    match source.map(|source| source.place(span).map(|place| Excerpt::of(source, place))) {
+        Some(Some(excerpt)) => {
+            let width = excerpt.line.to_string().len();
+            format!("{}\n{}\n", excerpt.numbered(width), excerpt.underlined(width, '^', "here"))
+        }
+        Some(None) => format!("  bytes {start} to {end}, which is no place in the source\n"),
+        None => format!("  bytes {start} to {end} of the source\n"),
+    }
 }
 
 fn checked(label: &str, report: &Report, source: Option<&Source>) -> String {

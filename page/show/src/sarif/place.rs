@@ -6,6 +6,7 @@ use crate::json::value::{Value, list, object};
 use crate::region::Region;
 use crate::{Mark, Source, Subject, escape};
 use form::Tree;
+use isonkaypu::Span;
 
 /// What places are made from.
 pub struct Places<'a> {
@@ -20,9 +21,10 @@ impl<'a> Places<'a> {
         Places { uri: escape::uri(subject.label()), source: source(subject), tree }
     }
 
-    /// The file as a whole.
-    pub fn whole(&self) -> Value {
-        object([("physicalLocation", self.physical(None))])
+    /// The file: the place in it, where the source is at hand and has it, else as a whole.
+    pub fn whole(&self, span: Option<Span>) -> Value {
+        let region = span.and_then(|span| Region::of(self.source.as_ref(), span));
+        object([("physicalLocation", self.physical(region.as_ref()))])
     }
 
     /// A related place: as a location, with its number in the result and what it is.

@@ -3,8 +3,9 @@
 
 use super::rules::{DOUBT, DOUBT_ID, described, message, refusal_id, refusals};
 use crate::json::value::{Value, list, object};
+use crate::unread::Unread;
 use crate::{Outcome, Subject, about};
-use isonkaypu::Doubt;
+use isonkaypu::{Doubt, Span};
 
 /// The notification that says what was not checked.
 const NOT_CHECKED_ID: &str = "not-checked";
@@ -24,6 +25,8 @@ pub fn all() -> Value {
 pub struct Trouble {
     pub id: String,
     pub says: String,
+    /// Where in the source, where it has a place.
+    pub span: Option<Span>,
 }
 
 impl Trouble {
@@ -36,19 +39,20 @@ impl Trouble {
 pub fn troubles(subject: &Subject) -> Vec<Trouble> {
     match subject.outcome() {
         Outcome::Checked(report) => report.doubts().iter().map(doubted).collect(),
-        Outcome::NoImage { refusal, .. } => vec![refused(refusal.number().into())],
-        Outcome::NotPacked(error) => vec![refused(error.number().into())],
+        _ => Unread::of(subject).iter().map(refused).collect(),
     }
 }
 
 fn doubted(doubt: &Doubt) -> Trouble {
-    Trouble { id: DOUBT_ID.to_string(), says: format!("{}: {doubt}.", about::capital(DOUBT)) }
+    Trouble { id: DOUBT_ID.to_string(), says: format!("{}: {doubt}.", about::capital(DOUBT)), span: None }
 }
 
-fn refused(number: u16) -> Trouble {
-    let title = words::refusal(number).map_or("it is no image", |words| &words.title);
-    let says = format!("The contract could not be read, and nothing was checked: {title} (image {number}).");
-    Trouble { id: refusal_id(number), says }
+/// What document 01 has no number for, an image that does not say what the contract says, is a doubt.
+fn refused(unread: &Unread) -> Trouble {
+    let Unread { number, sentence, span, .. } = unread;
+    let numbered = number.map_or(String::new(), |number| format!(" (image {number})"));
+    let says = format!("The contract could not be read, and nothing was checked: {sentence}{numbered}.");
+    Trouble { id: number.map_or(DOUBT_ID.to_string(), refusal_id), says, span: *span }
 }
 
 /// The notification that keeps a reader from taking more for checked than was.

@@ -3,7 +3,7 @@
 #![allow(dead_code)] // each test program takes its own part
 
 use form::image::{HEADER, NODE};
-use isonkaypu::check_image;
+use isonkaypu::{Limit, PackError, Span, check_image};
 use show::Subject;
 use std::path::Path;
 
@@ -63,6 +63,42 @@ pub fn shown(form: fn(&Subject) -> String, label: &str, image: &[u8], source: Op
         Some(source) => subject.with_source(source),
         None => subject,
     })
+}
+
+/// Everything that can keep a contract from being packed.
+pub const LIMITS: [Limit; 9] = [
+    Limit::Nodes,
+    Limit::Ancestors,
+    Limit::NameLength,
+    Limit::NameForm,
+    Limit::OtherForm,
+    Limit::Names,
+    Limit::Text,
+    Limit::Refused(8),
+    Limit::Unlike,
+];
+
+/// The text of a contract with a name that no image can have.
+pub const UMLAUT: &str = "contract Ward {\n    state { ausgabe_für: u64; }\n}\n";
+
+/// Shows a contract that could not be packed, since a limit is passed there.
+pub fn not_packed(
+    form: fn(&Subject) -> String,
+    limit: Limit,
+    at: (u32, u32),
+    source: Option<&[u8]>,
+) -> String {
+    let subject = Subject::not_packed("ward.quanta", PackError::new(limit, Span { start: at.0, end: at.1 }));
+    form(&match source {
+        Some(source) => subject.with_source(source),
+        None => subject,
+    })
+}
+
+/// The same at the name that has an umlaut, with the text at hand.
+pub fn umlaut(form: fn(&Subject) -> String, limit: Limit) -> String {
+    let start = UMLAUT.find("ausgabe").expect("it is there") as u32;
+    not_packed(form, limit, (start, start + 12), Some(UMLAUT.as_bytes()))
 }
 
 /// Shows a source that the example reader can read, with itself at hand.
