@@ -84,7 +84,8 @@ fn a_named_archive_that_was_made_from_something_else() {
     }
     // a file under another name
     write(&folder.join("made-from"), &made_from(&root));
-    fs::rename(root.join("crates/image/src/lib.rt"), root.join("crates/image/src/names.rt")).expect("renamed");
+    fs::rename(root.join("crates/image/src/lib.rt"), root.join("crates/image/src/names.rt"))
+        .expect("renamed");
     refused(&folder, &root, "made from other crates");
 }
 
