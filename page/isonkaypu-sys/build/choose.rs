@@ -6,7 +6,8 @@ use std::path::{Path, PathBuf};
 use std::process::{Command, Output, Stdio};
 
 pub const ARCHIVE: &str = "libisonkaypu.a";
-/// Beside the archive: what the script `made-from` printed where it was made.
+/// Beside the archive: what the script `made-from` printed where it was made, and the archive's own sum as
+/// `sha256sum` writes it.
 pub const NOTE: &str = "made-from";
 const SCRIPTS: &str = "page/isonkaypu-sys";
 const WHAT_TO_RUN: &str = "`page/isonkaypu-sys/archive` makes it, on a machine with the Rattle toolchain, and prints its \
@@ -63,14 +64,25 @@ fn fitting(folder: &Path, here: Option<&str>) -> Result<Chosen, String> {
     if !archive.is_file() {
         return Err(format!("the proved library is not there: {shown}"));
     }
-    let note = fs::read_to_string(folder.join(NOTE)).ok().and_then(|text| digest(&text));
-    let Some(made_from) = note else {
-        return Err(format!("nobody says what the library was made from: {shown} has no `{NOTE}` beside it"));
+    let Some(made_from) = noted(folder) else {
+        return Err(format!(
+            "nobody says what the library was made from: {shown} has no `{NOTE}` about it beside it"
+        ));
     };
     if here.is_some_and(|here| here != made_from) {
         return Err(format!("the library was made from other crates than those that stand here: {shown}"));
     }
     Ok(Chosen { folder: folder.to_path_buf(), made_from })
+}
+
+/// What the note says that the archive was made from, where it speaks of this very archive.
+fn noted(folder: &Path) -> Option<String> {
+    let text = fs::read_to_string(folder.join(NOTE)).ok()?;
+    let [made_from, sum] = text.lines().collect::<Vec<_>>()[..] else { return None };
+    digest(sum.strip_suffix(ARCHIVE)?.trim_end())?;
+    // the first line names no file, and is passed over
+    let check = Command::new("sha256sum").args(["--check", "--status", NOTE]).current_dir(folder).status();
+    if check.is_ok_and(|status| status.success()) { digest(made_from) } else { None }
 }
 
 /// A SHA-256 alone on its line.

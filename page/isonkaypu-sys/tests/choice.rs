@@ -42,14 +42,21 @@ fn made_from(root: &Path) -> String {
     String::from_utf8(output.stdout).expect("text")
 }
 
+/// What `sha256sum` says of the archives below.
+const SUM: &str = "9e691d5adacf0e102f203100842ffaba4e2a7dfe3dbd536827d3c0db8c7e88f1  libisonkaypu.a\n";
+
 /// An archive in a folder of the repository, with a note or without.
-fn archive(root: &Path, note: Option<&str>) -> PathBuf {
+fn archive(root: &Path, made_from: Option<&str>) -> PathBuf {
     let folder = root.join("target/staticlib");
     write(&folder.join("libisonkaypu.a"), "an archive");
-    if let Some(note) = note {
-        write(&folder.join("made-from"), note);
+    if let Some(made_from) = made_from {
+        note(&folder, made_from);
     }
     folder
+}
+
+fn note(folder: &Path, made_from: &str) {
+    write(&folder.join("made-from"), &format!("{made_from}{SUM}"));
 }
 
 fn refused(folder: &Path, root: &Path, why: &str) {
@@ -60,9 +67,9 @@ fn refused(folder: &Path, root: &Path, why: &str) {
 #[test]
 fn a_named_archive_that_was_made_from_what_stands_here() {
     let root = repository("same");
-    let note = made_from(&root);
-    let folder = archive(&root, Some(&note));
-    let made_from = note.trim_end().to_string();
+    let here = made_from(&root);
+    let folder = archive(&root, Some(&here));
+    let made_from = here.trim_end().to_string();
     assert_eq!(named(&folder, &root), Ok(Chosen { folder, made_from }));
 }
 
@@ -76,14 +83,13 @@ fn a_named_archive_that_was_made_from_something_else() {
         ("crates/image/specs/Lib.antt", "one more file"),
         ("crates.txt", "image:\nrules: image\n"),
     ] {
-        let before = made_from(&root);
-        write(&folder.join("made-from"), &before);
+        note(&folder, &made_from(&root));
         assert!(named(&folder, &root).is_ok());
         write(&root.join(path), text);
         refused(&folder, &root, "made from other crates than those that stand here");
     }
     // a file under another name
-    write(&folder.join("made-from"), &made_from(&root));
+    note(&folder, &made_from(&root));
     fs::rename(root.join("crates/image/src/lib.rt"), root.join("crates/image/src/names.rt"))
         .expect("renamed");
     refused(&folder, &root, "made from other crates");
@@ -94,27 +100,40 @@ fn a_named_archive_that_says_nothing_or_is_not_there() {
     let root = repository("silent");
     let folder = archive(&root, None);
     refused(&folder, &root, "nobody says what the library was made from");
-    for note in ["", "853071", "no sum at all\n", &"A".repeat(64)] {
-        write(&folder.join("made-from"), note);
+    let here = made_from(&root);
+    for text in
+        [&here, SUM, &format!("{here}{here}"), &format!("{here}{SUM}{SUM}"), &format!("853071\n{SUM}")]
+    {
+        write(&folder.join("made-from"), text);
         refused(&folder, &root, "nobody says what the library was made from");
     }
     refused(&root, &root, "the proved library is not there");
+}
+
+/// Another archive in the place of the one that the note was written for.
+#[test]
+fn a_note_speaks_of_its_own_archive_alone() {
+    let root = repository("replaced");
+    let folder = archive(&root, Some(&made_from(&root)));
+    assert!(named(&folder, &root).is_ok());
+    write(&folder.join("libisonkaypu.a"), "another archive");
+    refused(&folder, &root, "nobody says what the library was made from");
 }
 
 /// `page` alone, in a folder where the crates are not: the note is all there is to go by.
 #[test]
 fn where_no_crates_stand_beside() {
     let root = repository("alone");
-    let note = made_from(&root);
+    let elsewhere = made_from(&root);
     fs::remove_dir_all(root.join("crates")).expect("removed");
     fs::remove_file(root.join("crates.txt")).expect("removed");
-    let folder = archive(&root, Some(&note));
-    assert_eq!(named(&folder, &root).map(|chosen| chosen.made_from), Ok(note.trim_end().to_string()));
+    let folder = archive(&root, Some(&elsewhere));
+    assert_eq!(named(&folder, &root).map(|chosen| chosen.made_from), Ok(elsewhere.trim_end().to_string()));
     fs::remove_file(folder.join("made-from")).expect("removed");
     refused(&folder, &root, "nobody says what the library was made from");
     // half of them is no repository to go by, and no reason to trust a note
     write(&root.join("crates.txt"), "image:\n");
-    write(&folder.join("made-from"), &note);
+    note(&folder, &elsewhere);
     assert!(named(&folder, &root).is_err());
 }
 
