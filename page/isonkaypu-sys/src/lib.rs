@@ -3,7 +3,7 @@
 //! This is the only member that is unsafe, and each call is safe for the same reason: the pointers
 //! come from live references, and the lengths are those of the slices.
 
-#![deny(missing_docs)]
+#![deny(missing_docs, rustdoc::all)]
 
 mod exported;
 

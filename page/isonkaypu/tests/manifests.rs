@@ -30,8 +30,9 @@ fn paths(text: &str) -> Vec<&str> {
 #[test]
 fn page_rests_on_the_published_crates_alone() {
     let workspace = read(&page().join("Cargo.toml"));
-    let outside: Vec<_> = paths(&workspace).into_iter().filter(|path| path.starts_with("..")).collect();
-    assert_eq!(outside, ["../published/quanta_lexer", "../published/quanta_ast"]);
+    let leads_out = |line: &&str| paths(line).iter().any(|path| path.starts_with(".."));
+    let outside = workspace.lines().filter(leads_out).filter_map(|line| line.split(" = ").next());
+    assert_eq!(outside.collect::<Vec<_>>(), ["quanta_lexer", "quanta_ast"]);
     for member in members() {
         assert_eq!(paths(&read(&member)), [""; 0], "{}", member.display());
     }

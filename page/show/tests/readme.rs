@@ -53,12 +53,11 @@ fn copy(from: &Path, to: &Path, change: &dyn Fn(&Path, String) -> String) {
 fn pointed_page(to: &Path) {
     let lines = shown("page/Cargo.toml");
     let name = |line: &str| line.split(" = ").next().unwrap_or_default().to_string();
-    let instead = |line: &str| lines.lines().find(|new| name(new) == name(line)).unwrap_or(line).to_string();
+    let new = |line: &str| lines.lines().find(|new| name(new) == name(line));
     let manifest = root().join("page/Cargo.toml");
     let text = read(&manifest);
-    let pointed: Vec<String> = text.lines().map(instead).collect();
-    assert_eq!(text.lines().zip(&pointed).filter(|(old, new)| old != new).count(), 2);
-    let pointed = pointed.join("\n") + "\n";
+    assert_eq!((lines.lines().count(), text.lines().filter_map(new).count()), (2, 2));
+    let pointed: String = text.lines().map(|line| format!("{}\n", new(line).unwrap_or(line))).collect();
     let change = |path: &Path, text: String| if path == manifest { pointed.clone() } else { text };
     copy(&root().join("page"), to, &change);
 }
