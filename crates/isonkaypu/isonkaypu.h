@@ -18,12 +18,13 @@
  *   - Every call ends. It takes no memory but its stack, reads and writes no file, and keeps nothing
  *     from one call to the next: there is no global state, so any number of threads may call at once.
  *
- * The number that a function returns
+ * The number that a function returns; each has a name below
  *   0         accepted, answered or listed
  *   1 to 8    the image is refused; docs/HELP.md says which fault has which number
  *   9         isonkaypu_list only: the buffer is too short
  *   20 to 62  resolve, access and linear only: the code of the first offence
  *             (resolve 20 to 40, access 50 and 51, linear 60 to 62)
+ * Let a contract through only where every number is ISONKAYPU_ACCEPTED: later versions may have more.
  * On each of 1 to 9 all else that is answered is 0, and no word of a list buffer has changed.
  */
 #ifndef ISONKAYPU_H
@@ -31,6 +32,12 @@
 
 #include <stddef.h>
 #include <stdint.h>
+
+/* The version of the library. */
+#define ISONKAYPU_VERSION_MAJOR 0
+#define ISONKAYPU_VERSION_MINOR 1
+#define ISONKAYPU_VERSION_PATCH 0
+#define ISONKAYPU_VERSION "0.1.0"
 
 /*
  * Bytes of stack that are enough for any call, with room to spare. Measured by painting a stack and
@@ -41,12 +48,68 @@
  */
 #define ISONKAYPU_STACK 65536
 
+/* Whoever does not look at the number lets everything through. Compilers that can say so do. */
+#if defined(__GNUC__)
+#define ISONKAYPU_MUST_USE __attribute__((warn_unused_result))
+#else
+#define ISONKAYPU_MUST_USE
+#endif
+
+/* The numbers by name, with document 01's condition in a few words; docs/HELP.md has each at length. */
+enum {
+    ISONKAYPU_ACCEPTED = 0, /* accepted, answered or listed */
+
+    /* refusals of the image, in the order in which they are tested */
+    ISONKAYPU_IMAGE_LENGTH = 1, /* length under 24 or over 51,226 */
+    ISONKAYPU_IMAGE_VERSION = 2, /* version not 1, or header zero not 0 */
+    ISONKAYPU_IMAGE_COUNTS = 3, /* no nodes, over 2,048 nodes, or over 1,024 names */
+    ISONKAYPU_IMAGE_OFFSETS = 4, /* an offset or the total is not as it must be */
+    ISONKAYPU_IMAGE_NAMES = 5, /* text offsets, a name's length or form, or the order of names */
+    ISONKAYPU_IMAGE_TREE = 6, /* the nodes do not form a contract's tree */
+    ISONKAYPU_IMAGE_DEPTH = 7, /* a node has over 64 ancestors */
+    ISONKAYPU_IMAGE_UNUSED_NAME = 8, /* a name is unused */
+
+    ISONKAYPU_LIST_TOO_SHORT = 9, /* isonkaypu_list only: fewer than 3 words per offence */
+
+    /* offences of resolve */
+    ISONKAYPU_FIELD_TWICE = 20, /* field name met before */
+    ISONKAYPU_EVENT_TWICE = 21, /* event name met before */
+    ISONKAYPU_MINT_ASSET_OF_SEVERAL = 22, /* mint_asset is called with over one asset declared */
+    ISONKAYPU_ENTRY_TWICE = 23, /* entry whose signature equals an earlier one's */
+    ISONKAYPU_PARAMETER_IS_STATE = 24, /* parameter has a state name */
+    ISONKAYPU_PARAMETER_TWICE = 25, /* parameter name met before in this entry */
+    ISONKAYPU_LET_USED_BEFORE = 26, /* name of a let used before that let */
+    ISONKAYPU_LET_TWICE = 27, /* let has the name of an earlier let */
+    ISONKAYPU_LET_IS_STATE = 28, /* let has a state name */
+    ISONKAYPU_LET_IS_PARAMETER = 29, /* let has a parameter's name */
+    ISONKAYPU_EVENT_UNDECLARED = 30, /* emitted event not declared */
+    ISONKAYPU_EVENT_VALUES = 31, /* emitted with another number of values than declared */
+    ISONKAYPU_DEPLOYER_OUTSIDE_GENESIS = 32, /* deployer used in an entry or an invariant */
+    ISONKAYPU_GENESIS_ASSIGNS_NO_STATE = 33, /* genesis assigns to what is no state name */
+    ISONKAYPU_CALL_UNKNOWN = 34, /* call that the language does not have */
+    ISONKAYPU_SIGNER_NO_STATE = 35, /* signer is no state name */
+    ISONKAYPU_CLAUSE_NO_STATE = 36, /* writes or reads names what is no state name */
+    ISONKAYPU_CONSERVES_UNKNOWN = 37, /* conserves names an unknown asset */
+    ISONKAYPU_MINTS_UNDECLARED = 38, /* mints names an asset that is not declared */
+    ISONKAYPU_BURNS_UNDECLARED = 39, /* burns names an asset that is not declared */
+    ISONKAYPU_ADDRESS_CALLED = 40, /* call on caller or on an address */
+
+    /* offences of access */
+    ISONKAYPU_INVARIANT_NO_STATE = 50, /* invariant names what is no state name */
+    ISONKAYPU_WRITE_NOT_NAMED = 51, /* state name written that no writes clause has */
+
+    /* offences of linear */
+    ISONKAYPU_LOT_RENAMED = 60, /* let gives a lot a second name */
+    ISONKAYPU_LOT_UNUSED = 61, /* lot without a use */
+    ISONKAYPU_LOT_USED_TWICE = 62 /* lot with more than one use */
+};
+
 #ifdef __cplusplus
 extern "C" {
 #endif
 
 /* 0 where the image is admitted, else its refusal, 1 to 8. */
-size_t isonkaypu_refusal(const uint8_t *image, size_t image_len);
+ISONKAYPU_MUST_USE size_t isonkaypu_refusal(const uint8_t *image, size_t image_len);
 
 /*
  * The verdict of one pass: 0 accepted, 1 to 8 the image's refusal, else the code of the pass's first
@@ -54,9 +117,12 @@ size_t isonkaypu_refusal(const uint8_t *image, size_t image_len);
  * node's two span words, as the image carries them. All three are written in every case: 0 on
  * acceptance and on refusal.
  */
-size_t isonkaypu_resolve(const uint8_t *image, size_t image_len, uint16_t *place, uint32_t *from, uint32_t *to);
-size_t isonkaypu_access(const uint8_t *image, size_t image_len, uint16_t *place, uint32_t *from, uint32_t *to);
-size_t isonkaypu_linear(const uint8_t *image, size_t image_len, uint16_t *place, uint32_t *from, uint32_t *to);
+ISONKAYPU_MUST_USE size_t isonkaypu_resolve(
+    const uint8_t *image, size_t image_len, uint16_t *place, uint32_t *from, uint32_t *to);
+ISONKAYPU_MUST_USE size_t isonkaypu_access(
+    const uint8_t *image, size_t image_len, uint16_t *place, uint32_t *from, uint32_t *to);
+ISONKAYPU_MUST_USE size_t isonkaypu_linear(
+    const uint8_t *image, size_t image_len, uint16_t *place, uint32_t *from, uint32_t *to);
 
 /*
  * The three verdicts, with the image checked once. Always writes 12 numbers: the verdict's number,
@@ -70,11 +136,11 @@ void isonkaypu_verdicts(const uint8_t *image, size_t image_len, size_t numbers[1
  * when their bytes are. Returns 0 and sets `yes` to 1 for yes and 0 for no; or returns the image's
  * refusal, 1 to 8, with `yes` 0.
  */
-size_t isonkaypu_is_state(
+ISONKAYPU_MUST_USE size_t isonkaypu_is_state(
     const uint8_t *image, size_t image_len, const uint8_t *name, size_t name_len, uint8_t *yes);
-size_t isonkaypu_is_declared_asset(
+ISONKAYPU_MUST_USE size_t isonkaypu_is_declared_asset(
     const uint8_t *image, size_t image_len, const uint8_t *name, size_t name_len, uint8_t *yes);
-size_t isonkaypu_is_known_asset(
+ISONKAYPU_MUST_USE size_t isonkaypu_is_known_asset(
     const uint8_t *image, size_t image_len, const uint8_t *name, size_t name_len, uint8_t *yes);
 
 /*
@@ -84,7 +150,7 @@ size_t isonkaypu_is_known_asset(
  * A buffer with fewer than three words for each offence gives 9, a broken image its refusal, 1 to 8:
  * then `count` is 0 and nothing was written to `words`.
  */
-size_t isonkaypu_list(
+ISONKAYPU_MUST_USE size_t isonkaypu_list(
     const uint8_t *image, size_t image_len, uint16_t *words, size_t words_len, size_t *count);
 
 /*
@@ -94,11 +160,11 @@ size_t isonkaypu_list(
  * records are only counted. Three times the sum of the three counts is the room that isonkaypu_list
  * asks for. A broken image gives its refusal, 1 to 8, `count` 0 and an unchanged buffer.
  */
-size_t isonkaypu_resolve_list(
+ISONKAYPU_MUST_USE size_t isonkaypu_resolve_list(
     const uint8_t *image, size_t image_len, uint16_t *words, size_t words_len, size_t *count);
-size_t isonkaypu_access_list(
+ISONKAYPU_MUST_USE size_t isonkaypu_access_list(
     const uint8_t *image, size_t image_len, uint16_t *words, size_t words_len, size_t *count);
-size_t isonkaypu_linear_list(
+ISONKAYPU_MUST_USE size_t isonkaypu_linear_list(
     const uint8_t *image, size_t image_len, uint16_t *words, size_t words_len, size_t *count);
 
 #ifdef __cplusplus

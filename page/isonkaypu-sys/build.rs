@@ -1,21 +1,25 @@
-//! Links the proved static library, and records which kit it was made with. It stands in the folder
-//! that ISONKAYPU_STATICLIB names, or else in the repository, where it is made from the proved crates
-//! when it is not there. Where it cannot be had the build ends here and says what to run: there is no
-//! checker without it.
+//! Links the proved static library, and records what it was made from and with which kit. It stands in
+//! the folder that ISONKAYPU_STATICLIB names, or else in the repository, where it is made from the proved
+//! crates when it is not there or was made from others (`build/choose.rs`). Where it cannot be had the
+//! build ends here and says what to run: there is no checker without it.
 
+#[path = "build/choose.rs"]
+mod choose;
+
+use choose::Chosen;
 use std::env;
-use std::fs;
+use std::fs::{self, OpenOptions};
+use std::io::Write;
 use std::path::{Path, PathBuf};
-use std::process::{Command, Stdio, exit};
+use std::process::{Command, exit};
 
-const ARCHIVE: &str = "libisonkaypu.a";
 /// Beside the archive: the line that `rt version` printed where it was made.
 const KIT: &str = "kit";
-const WHAT_TO_RUN: &str = "`page/isonkaypu-sys/archive` makes it, on a machine with the Rattle toolchain, and prints its \
-                           folder, for ISONKAYPU_STATICLIB";
 
 fn main() {
     println!("cargo:rerun-if-changed=build.rs");
+    println!("cargo:rerun-if-changed=build");
+    println!("cargo:rerun-if-changed=made-from");
     println!("cargo:rerun-if-env-changed=ISONKAYPU_STATICLIB");
     if let Err(why) = link() {
         eprintln!("{why}");
@@ -24,48 +28,40 @@ fn main() {
 }
 
 fn link() -> Result<(), String> {
-    let folder = folder()?;
+    let root = PathBuf::from(env::var_os("CARGO_MANIFEST_DIR").unwrap_or_default()).join("../..");
+    for path in choose::sources(&root) {
+        println!("cargo:rerun-if-changed={}", path.display());
+    }
+    let chosen = chosen(&root)?;
     // else a stale archive would stay linked
-    println!("cargo:rerun-if-changed={}", folder.join(ARCHIVE).display());
-    println!("cargo:rustc-env=ISONKAYPU_KIT={}", kit(&folder)?);
-    println!("cargo:rustc-link-search=native={}", folder.display());
+    for file in [choose::ARCHIVE, choose::NOTE] {
+        println!("cargo:rerun-if-changed={}", chosen.folder.join(file).display());
+    }
+    println!("cargo:rustc-env=ISONKAYPU_LIBRARY={}", chosen.made_from);
+    println!("cargo:rustc-env=ISONKAYPU_KIT={}", kit(&chosen.folder)?);
+    println!("cargo:rustc-link-search=native={}", chosen.folder.display());
     println!("cargo:rustc-link-lib=static:-bundle=isonkaypu");
     Ok(())
 }
 
-/// The folder of the archive: the one that the caller names, or the repository's own.
-fn folder() -> Result<PathBuf, String> {
+/// The archive of the folder that the caller names, or the repository's own.
+fn chosen(root: &Path) -> Result<Chosen, String> {
     if let Some(folder) = env::var_os("ISONKAYPU_STATICLIB") {
-        let folder = PathBuf::from(folder);
-        return if has_archive(&folder) { Ok(folder) } else { Err(missing(&folder)) };
+        return choose::named(Path::new(&folder), root);
     }
-    let member = PathBuf::from(env::var_os("CARGO_MANIFEST_DIR").unwrap_or_default());
-    let root = member.join("../..");
     // `rt` writes archives for x86-64; `archive` puts those for other processors elsewhere
     let of_rt = env::var("CARGO_CFG_TARGET_ARCH").is_ok_and(|processor| processor == "x86_64");
-    let folder = root.join(if of_rt { "target/staticlib" } else { "target/native/staticlib" });
-    if has_archive(&folder) { Ok(folder) } else { made(&root) }
+    choose::own(&root.join(if of_rt { "target/staticlib" } else { "target/native/staticlib" }), root, tell)
 }
 
-fn has_archive(folder: &Path) -> bool {
-    folder.join(ARCHIVE).is_file()
-}
-
-fn missing(folder: &Path) -> String {
-    format!("the proved library is not there: {}\n{WHAT_TO_RUN}", folder.join(ARCHIVE).display())
-}
-
-/// Has the repository make the archive, which takes minutes: the folder that it then stands in.
-fn made(root: &Path) -> Result<PathBuf, String> {
-    let script = root.join("page/isonkaypu-sys/archive");
-    let run = Command::new(&script).stdin(Stdio::null()).stderr(Stdio::inherit()).output();
-    let output = run.map_err(|why| format!("{}: {why}\n{WHAT_TO_RUN}", script.display()))?;
-    let folder = PathBuf::from(String::from_utf8_lossy(&output.stdout).trim_end());
-    if output.status.success() && has_archive(&folder) {
-        return Ok(folder);
+/// Tells whoever waits. Cargo keeps what a build script prints until that has ended, which here may be
+/// minutes later, so a terminal is told at once.
+fn tell(what: &str) {
+    println!("cargo:warning={what}");
+    eprintln!("{what}");
+    if let Ok(mut terminal) = OpenOptions::new().write(true).open("/dev/tty") {
+        let _ = writeln!(terminal, "\n{what}");
     }
-    let how = output.status;
-    Err(format!("{} did not make the proved library ({how})\n{WHAT_TO_RUN}", script.display()))
 }
 
 /// The kit that the archive was made with: what is noted beside it, or else what `rt` says here.

@@ -1,4 +1,4 @@
--- What an image is answered, all at once: for the tables of specs/Patterns. `Answered` speaks of the real definitions, `refusal`,
+-- What an image is answered, all at once: for the table of the crate `patterns`. `Answered` speaks of the real definitions, `refusal`,
 -- `passAnswer` of each pass, `offences` and `listAnswer`, and of no others. `outcome` only puts them side by side, so that a row is
 -- computed as one value. Their bodies are not written out a second time: a form with each pass computed once was no faster, since of
 -- a pass's answer antt computes the list up to its first record. What the list answers is not computed: it follows from the row, for

@@ -7,7 +7,7 @@ use crate::judge;
 use crate::mismatch::{Mismatch, differ, same, shown};
 use crate::tally::Tally;
 use generate::{Rng, fill};
-use isonkaypu::{ImageRefusal, Report, Verdict};
+use isonkaypu::{ImageRefusal, Place, Report};
 use quanta_ast::Contract;
 use quanta_typeck::model::Model;
 use reference::Pass;
@@ -67,7 +67,8 @@ fn agree(image: &[u8], contract: &Contract, report: &Report) -> Result<(), Misma
     let mut accepted = true;
     for pass in Pass::ALL {
         let rust = judged(pass, &spans, &places);
-        same(pass.word(), rust, said(report.verdict(of_page(pass))))?;
+        let verdict = report.verdict(of_page(pass));
+        same(pass.word(), rust, said(verdict.code, verdict.place))?;
         same(&format!("the first of {} in the list", pass.word()), rust, first(pass, report))?;
         accepted &= rust == Said::default();
     }
@@ -84,15 +85,14 @@ fn judged(pass: Pass, spans: &Model, places: &Model) -> Said {
     (code, usize::from(place), span.start, span.end)
 }
 
-fn said(verdict: Verdict) -> Said {
-    let span = verdict.place.span;
-    (verdict.code, verdict.place.node, span.from, span.to)
+fn said(code: u16, place: Place) -> Said {
+    (code, place.node, place.span.start, place.span.end)
 }
 
 fn first(pass: Pass, report: &Report) -> Said {
     let of_pass = |code| isonkaypu::Pass::of_code(code) == Some(of_page(pass));
     let first = report.offences().iter().find(|offence| of_pass(offence.code));
-    first.map_or(Said::default(), |first| said(Verdict { code: first.code, place: first.place }))
+    first.map_or(Said::default(), |first| said(first.code, first.place))
 }
 
 fn of_page(pass: Pass) -> isonkaypu::Pass {

@@ -1,13 +1,13 @@
 //! Makes an image that shows a mismatch small: subtrees are taken out, expressions and types give
 //! way to what they hold, names become short, as long as the mismatch stays.
 
+use form::Tree;
 use generate::Node;
-use reference::admit;
 
 /// The smallest image that this finds on which `shows` still holds. Bytes that are not admitted
 /// are only shortened from their end.
 pub fn shrink(image: &[u8], shows: &dyn Fn(&[u8]) -> bool) -> Vec<u8> {
-    let Ok(tree) = admit(image) else {
+    let Some(tree) = Tree::of(image).filter(|_| reference::refusal(image) == 0) else {
         return shortened(image, shows);
     };
     let mut tree = Node::of(&tree);

@@ -31,7 +31,7 @@ fn twice_in_an_item(pattern: &Pattern, code: u16) -> bool {
     let list = pattern.list();
     tree.children(0).any(|item| {
         let within = |place: u16| (item..tree.end(item)).contains(&usize::from(place));
-        list.iter().filter(|r| r.code == code && within(r.place)).count() > 1
+        list.iter().filter(|[of, place, _]| *of == code && within(*place)).count() > 1
     })
 }
 

@@ -2,7 +2,7 @@
 //! its source would be.
 
 use crate::{Node, ident, leaf, name, node, number};
-use reference::kind;
+use form::kind;
 
 /// A Name, and then more.
 fn named(text: &str, rest: Vec<Node>) -> Vec<Node> {

@@ -4,8 +4,8 @@
 
 use crate::Parts;
 use crate::rng::Rng;
-use reference::image::{HEADER, NODE, RawNode};
-use reference::kind;
+use form::image::{HEADER, NODE, RawNode};
+use form::kind;
 
 /// A damaged copy of an admitted image.
 pub fn damaged(rng: &mut Rng, image: &[u8]) -> Vec<u8> {

@@ -4,7 +4,7 @@ use crate::build::*;
 use crate::maker::{Maker, Site};
 use crate::words::*;
 use crate::{Node, ident, leaf, node};
-use reference::kind;
+use form::kind;
 
 /// What the linear pass makes of an Ident in this position.
 #[derive(Clone, Copy, PartialEq, Eq)]

@@ -6,7 +6,7 @@ use crate::rng::Rng;
 use crate::taste::Taste;
 use crate::words::*;
 use crate::{Node, leaf, name, node, number};
-use reference::kind;
+use form::kind;
 
 /// A parameter or a field: its name and whether it is of type `Q_Address`.
 #[derive(Clone)]

@@ -3,8 +3,7 @@
 
 use crate::parts::Parts;
 use form::image::RawNode;
-use form::kind;
-use reference::tree::Tree;
+use form::{Tree, kind};
 
 /// A node with its subtree. The mark is for cases written by hand, which name places by it; it is
 /// not written out.

@@ -4,7 +4,7 @@
 use crate::build::*;
 use crate::{Node, ident, name, node};
 use form::image::RawNode;
-use reference::kind;
+use form::kind;
 
 /// What the contract's text is; the spans of the image are byte offsets into it.
 pub const WARD: &str = include_str!("../../../samples/ward.quanta");

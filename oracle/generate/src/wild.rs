@@ -5,7 +5,7 @@ use crate::build::*;
 use crate::rng::Rng;
 use crate::words::*;
 use crate::{Node, ident, leaf, name, node, number};
-use reference::kind;
+use form::kind;
 
 pub struct Wild<'r> {
     rng: &'r mut Rng,

@@ -39,7 +39,7 @@ help-page
          writes all of these words as one page, docs/HELP.md
 ";
 
-/// `--version`: ours, and the kit's that the proved library was made with.
+/// `--version`: ours, the proved library's, and the kit's that it was made with.
 pub fn version() -> String {
-    format!("isonkaypu {}\nmade with {}\n", env!("CARGO_PKG_VERSION"), isonkaypu::kit())
+    format!("{}\nmade with {}\n", show::made_by(), isonkaypu::kit())
 }

@@ -260,7 +260,8 @@ fn of_itself() {
     let version = run(&["--version"]);
     assert_eq!(version.status, Some(ACCEPTED));
     let [ours, kit] = version.out.lines().collect::<Vec<_>>()[..] else { panic!("{}", version.out) };
-    assert_eq!(ours, concat!("isonkaypu ", env!("CARGO_PKG_VERSION")));
+    let digits = ours.strip_prefix(concat!("isonkaypu ", env!("CARGO_PKG_VERSION"), ", library "));
+    assert_eq!(digits, isonkaypu::library().get(..12));
     assert!(kit.strip_prefix("made with ").is_some_and(|kit| !kit.is_empty()), "{kit}");
     let help = run(&["--help"]);
     assert_eq!(help.status, Some(ACCEPTED));

@@ -5,10 +5,15 @@
 pub const HEADER: usize = 24;
 /// "Node, 16 bytes"
 pub const NODE: usize = 16;
+/// The most nodes of an image.
 pub const MAX_NODES: usize = 2_048;
+/// The most names of an image.
 pub const MAX_NAMES: usize = 1_024;
+/// The most bytes of all names together.
 pub const MAX_TEXT: usize = 16_384;
+/// The most bytes of one name.
 pub const MAX_NAME: usize = 128;
+/// The most nodes that may stand above a node.
 pub const MAX_ANCESTORS: usize = 64;
 /// The length of an image that has every maximum.
 pub const MAX_LENGTH: usize = HEADER + NODE * MAX_NODES + 2 * (MAX_NAMES + 1) + MAX_TEXT;
@@ -39,13 +44,21 @@ fn offset_at(bytes: &[u8], at: usize) -> Option<usize> {
 /// The header, word by word.
 #[derive(Clone, Copy, Debug, PartialEq, Eq)]
 pub struct Header {
+    /// The version of the form: 1.
     pub version: u16,
+    /// How many nodes there are.
     pub nodes: usize,
+    /// How many names there are.
     pub names: usize,
+    /// The word that is zero.
     pub zero: u16,
+    /// Where the nodes begin.
     pub node_offset: usize,
+    /// Where the text offsets of the names begin.
     pub name_offset: usize,
+    /// Where the text begins.
     pub text_offset: usize,
+    /// How long the image is.
     pub total: usize,
 }
 
@@ -68,12 +81,19 @@ impl Header {
 /// The 16 bytes of a node, word by word.
 #[derive(Clone, Copy, Debug, PartialEq, Eq)]
 pub struct RawNode {
+    /// What it is: a number of `kind`.
     pub kind: u8,
+    /// The byte that is zero.
     pub zero_byte: u8,
+    /// The number of its name, from 1; 0 where it carries none.
     pub name: usize,
+    /// One past the last node of its subtree.
     pub end: usize,
+    /// The word that is zero.
     pub zero_word: u16,
+    /// Its first span word.
     pub from: u32,
+    /// Its second span word.
     pub to: u32,
 }
 

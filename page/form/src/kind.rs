@@ -3,7 +3,7 @@
 
 macro_rules! kinds {
     ($($name:ident = $number:literal, $shown:literal;)*) => {
-        $(pub const $name: u8 = $number;)*
+        $(#[doc = concat!("The number of ", $shown, ".")] pub const $name: u8 = $number;)*
 
         /// Every kind of the table.
         pub const ALL: &[u8] = &[$($number),*];

@@ -8,10 +8,15 @@ use std::ops::Range;
 /// A node: its kind, one past its subtree, the bytes it carries (none for most kinds), its spans.
 #[derive(Clone, Copy, Debug, PartialEq, Eq)]
 pub struct Node<'a> {
+    /// What it is: a number of `kind`.
     pub kind: u8,
+    /// One past the last node of its subtree.
     pub end: usize,
+    /// The bytes of its name; none where it carries none.
     pub text: &'a [u8],
+    /// Its first span word.
     pub from: u32,
+    /// Its second span word.
     pub to: u32,
 }
 
@@ -19,6 +24,7 @@ pub struct Node<'a> {
 /// `end` says where the tree ends, and `text`, `children` and `above` say nothing.
 #[derive(Clone, Debug, PartialEq, Eq)]
 pub struct Tree<'a> {
+    /// Every node, in preorder.
     pub nodes: Vec<Node<'a>>,
 }
 
@@ -32,26 +38,32 @@ impl<'a> Tree<'a> {
         ends_nest(&nodes).then_some(Tree { nodes })
     }
 
+    /// How many nodes there are.
     pub fn len(&self) -> usize {
         self.nodes.len()
     }
 
+    /// Never: a tree has its contract.
     pub fn is_empty(&self) -> bool {
         self.nodes.is_empty()
     }
 
+    /// The kind of node i.
     pub fn kind(&self, i: usize) -> u8 {
         self.nodes.get(i).map_or(0, |node| node.kind)
     }
 
+    /// One past the last node of the subtree of node i.
     pub fn end(&self, i: usize) -> usize {
         self.nodes.get(i).map_or(self.len(), |node| node.end)
     }
 
+    /// The bytes of the name that node i carries.
     pub fn text(&self, i: usize) -> &'a [u8] {
         self.nodes.get(i).map_or(&[], |node| node.text)
     }
 
+    /// The places of all nodes.
     pub fn all(&self) -> Range<usize> {
         0..self.nodes.len()
     }

@@ -3,6 +3,8 @@
 //! This is the only member that is unsafe, and each call is safe for the same reason: the pointers
 //! come from live references, and the lengths are those of the slices.
 
+#![deny(missing_docs, rustdoc::all)]
+
 mod exported;
 
 use exported::{List, Pass, Question};
@@ -14,15 +16,24 @@ const UNSET: u8 = 0xa5;
 /// refused, else the offence's code.
 #[derive(Clone, Copy, Debug, PartialEq, Eq)]
 pub struct Answer {
+    /// 0, a refusal, or a code.
     pub number: usize,
+    /// The node of the first offence; 0 where there is none.
     pub place: usize,
+    /// That node's first span word.
     pub from: usize,
+    /// That node's second span word.
     pub to: usize,
 }
 
 /// The kit that the library was made with, in the one line by which `rt version` names it.
 pub fn kit() -> &'static str {
     env!("ISONKAYPU_KIT")
+}
+
+/// What the library was made from: one SHA-256 over the proved crates, in 64 hexadecimal digits.
+pub fn library() -> &'static str {
+    env!("ISONKAYPU_LIBRARY")
 }
 
 fn unset() -> usize {
@@ -35,14 +46,17 @@ pub fn refusal(image: &[u8]) -> usize {
     unsafe { exported::isonkaypu_refusal(image.as_ptr(), image.len()) }
 }
 
+/// The verdict of the resolve pass.
 pub fn resolve(image: &[u8]) -> Answer {
     pass(exported::isonkaypu_resolve, image)
 }
 
+/// The verdict of the access pass.
 pub fn access(image: &[u8]) -> Answer {
     pass(exported::isonkaypu_access, image)
 }
 
+/// The verdict of the linear pass.
 pub fn linear(image: &[u8]) -> Answer {
     pass(exported::isonkaypu_linear, image)
 }
@@ -141,5 +155,12 @@ mod tests {
     fn the_kit_is_one_line() {
         assert!(!kit().trim().is_empty());
         assert_eq!(kit().lines().count(), 1);
+    }
+
+    #[test]
+    fn the_library_is_that_of_the_crates_that_stand_here() {
+        let script = concat!(env!("CARGO_MANIFEST_DIR"), "/made-from");
+        let output = std::process::Command::new(script).output().unwrap();
+        assert_eq!(String::from_utf8(output.stdout).unwrap(), format!("{}\n", library()));
     }
 }

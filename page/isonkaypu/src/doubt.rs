@@ -6,6 +6,7 @@ use std::fmt;
 
 /// Why a report is not to be relied on. A report that has any is never accepted.
 #[derive(Clone, Copy, Debug, PartialEq, Eq, Hash)]
+#[non_exhaustive]
 pub enum Doubt {
     /// The list was refused, with this number: 9 where its buffer was too short.
     List(usize),

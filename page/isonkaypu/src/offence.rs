@@ -2,34 +2,31 @@
 
 use crate::name::name_of;
 use form::Tree;
+use quanta_lexer::Span;
 use std::fmt;
 
-/// Two span words as the image carries them: byte offsets into the source, of the first byte and of
-/// the one past the last. Nobody judges them: they may lie outside of the source, or the other way
-/// round.
-#[derive(Clone, Copy, Debug, PartialEq, Eq, Hash)]
-pub struct Span {
-    pub from: u32,
-    pub to: u32,
-}
-
 /// A node of the image and where it stands in the source.
-#[derive(Clone, Copy, Debug, PartialEq, Eq, Hash)]
+// Of the parser's `Span` no more is asked than the published files ask: it may have no `Eq` and no `Hash`.
+#[derive(Clone, Copy, Debug, PartialEq)]
+#[non_exhaustive]
 pub struct Place {
     /// The node's number in the image's tree.
     pub node: usize,
+    /// Its two span words, document 01's `from` and `to`, as the parser's own span. Nobody judges them:
+    /// they may lie outside of the source, or the other way round.
     pub span: Span,
 }
 
 impl Place {
     /// The place of a node, where the tree has it.
     pub(crate) fn of(tree: &Tree, node: usize) -> Option<Place> {
-        tree.nodes.get(node).map(|found| Place { node, span: Span { from: found.from, to: found.to } })
+        tree.nodes.get(node).map(|found| Place { node, span: Span { start: found.from, end: found.to } })
     }
 }
 
 /// An offence against one of document 01's rules.
-#[derive(Clone, Debug, PartialEq, Eq)]
+#[derive(Clone, Debug, PartialEq)]
+#[non_exhaustive]
 pub struct Offence {
     /// Document 01's code, 20 to 62.
     pub code: u16,
@@ -60,11 +57,11 @@ impl Offence {
 /// The code, the name and the span: enough to find it. What it means is said by `words`.
 impl fmt::Display for Offence {
     fn fmt(&self, f: &mut fmt::Formatter<'_>) -> fmt::Result {
-        let Span { from, to } = self.place.span;
+        let Span { start, end } = self.place.span;
         write!(f, "[{}]", self.code)?;
         if let Some(name) = &self.name {
             write!(f, " `{name}`")?;
         }
-        write!(f, " at bytes {from} to {to}")
+        write!(f, " at bytes {start} to {end}")
     }
 }

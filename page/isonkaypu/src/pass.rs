@@ -2,6 +2,7 @@
 
 /// The passes, in the order in which they run.
 #[derive(Clone, Copy, Debug, PartialEq, Eq, Hash)]
+#[non_exhaustive]
 pub enum Pass {
     /// Names and what may stand where: codes 20 to 40.
     Resolve,
@@ -12,7 +13,8 @@ pub enum Pass {
 }
 
 impl Pass {
-    pub const ALL: [Pass; 3] = [Pass::Resolve, Pass::Access, Pass::Linear];
+    /// Every pass, in the order in which they run.
+    pub const ALL: &[Pass] = &[Pass::Resolve, Pass::Access, Pass::Linear];
 
     /// The word that the report has for it.
     pub fn word(self) -> &'static str {

@@ -2,14 +2,16 @@
 //! closed: what cannot be read from the library's answers is a doubt, and a doubt is no acceptance.
 
 use crate::answers::Answers;
-use crate::offence::{Offence, Place, Span};
+use crate::offence::{Offence, Place};
 use crate::{Doubt, Pass};
 use form::Tree;
 use isonkaypu_sys::Answer;
+use quanta_lexer::Span;
 use std::fmt;
 
 /// What a pass answers.
-#[derive(Clone, Copy, Debug, PartialEq, Eq, Hash)]
+#[derive(Clone, Copy, Debug, PartialEq)]
+#[non_exhaustive]
 pub struct Verdict {
     /// 0 where the pass accepts, else the code of its first offence.
     pub code: u16,
@@ -18,12 +20,19 @@ pub struct Verdict {
 }
 
 impl Verdict {
-    const ACCEPTED: Verdict = Verdict { code: 0, place: Place { node: 0, span: Span { from: 0, to: 0 } } };
+    const ACCEPTED: Verdict = Verdict { code: 0, place: Place { node: 0, span: Span { start: 0, end: 0 } } };
+
+    /// The offence that the pass met first, as far as a verdict tells: without its name and its related
+    /// place. Nothing where the pass accepts.
+    pub fn offence(self) -> Option<Offence> {
+        let Verdict { code, place } = self;
+        (code != 0).then_some(Offence { code, place, name: None, related: None })
+    }
 
     /// A number too large for its place becomes the largest, which is no code and no node.
     fn of(answer: &Answer) -> Verdict {
         let word = |number: usize| u32::try_from(number).unwrap_or(u32::MAX);
-        let span = Span { from: word(answer.from), to: word(answer.to) };
+        let span = Span { start: word(answer.from), end: word(answer.to) };
         Verdict {
             code: u16::try_from(answer.number).unwrap_or(u16::MAX),
             place: Place { node: answer.place, span },
@@ -33,7 +42,7 @@ impl Verdict {
 
 /// What the checker says of an admitted image.
 #[must_use = "a contract is let through only where the report is accepted"]
-#[derive(Clone, Debug, PartialEq, Eq)]
+#[derive(Clone, Debug, PartialEq)]
 pub struct Report {
     image: Vec<u8>,
     verdicts: [Verdict; 3],
@@ -49,7 +58,7 @@ impl Report {
         // a list that could not be read says nothing of the verdicts
         if doubts.is_empty() {
             let unlike = |(pass, verdict): &(Pass, Verdict)| *verdict != first_of(*pass, &offences);
-            let doubted = Pass::ALL.into_iter().zip(verdicts).filter(unlike);
+            let doubted = Pass::ALL.iter().copied().zip(verdicts).filter(unlike);
             doubts.extend(doubted.map(|(pass, _)| Doubt::Verdict(pass)));
         }
         Report { image: image.to_vec(), verdicts, offences, doubts }
@@ -140,12 +149,9 @@ mod tests {
 
     const ACCEPTS: Answer = Answer { number: 0, place: 0, from: 0, to: 0 };
 
-    /// P1 is accepted, P2 has the one offence 61.
+    /// The first is accepted, the second, document 01's P2, has the one offence 61.
     fn images() -> [Vec<u8>; 2] {
-        ["P1", "P2"].map(|name| {
-            let found = generate::patterns::patterns().into_iter().find(|p| p.name.starts_with(name));
-            found.unwrap().tree.image()
-        })
+        ["contract c { entry e() { } }", "contract c { entry e(x: Q_Asset) { } }"].map(example::image)
     }
 
     fn accepting() -> Answers {

@@ -6,6 +6,7 @@ use std::fmt;
 
 /// What stands in the way of an image. All but the last two are limits that a contract passes.
 #[derive(Clone, Copy, Debug, PartialEq, Eq, Hash)]
+#[non_exhaustive]
 pub enum Limit {
     /// More than 2,048 parts.
     Nodes,
@@ -67,17 +68,20 @@ impl fmt::Display for Limit {
 /// Where several are passed, it is the one at the first part in the order of the image: a part
 /// before what it holds, and that from first to last. At one part they are looked at in the order in
 /// which `Limit` has them.
-#[derive(Clone, Copy, Debug, PartialEq, Eq, Hash)]
+// Of the parser's `Span` no more is asked than the published files ask: it may have no `Eq` and no `Hash`.
+#[derive(Clone, Copy, Debug, PartialEq)]
 pub struct PackError {
     limit: Limit,
     span: Span,
 }
 
 impl PackError {
+    /// The error of a part that stands there.
     pub fn new(limit: Limit, span: Span) -> PackError {
         PackError { limit, span }
     }
 
+    /// Which limit is passed.
     pub fn limit(&self) -> Limit {
         self.limit
     }

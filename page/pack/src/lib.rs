@@ -8,6 +8,7 @@
 //! Any contract and any bytes may be given: nothing here panics, and nothing here goes down a
 //! contract by calling itself further than an image is deep.
 
+#![deny(missing_docs)]
 #![cfg_attr(
     not(test),
     deny(clippy::indexing_slicing, clippy::unwrap_used, clippy::expect_used, clippy::panic)

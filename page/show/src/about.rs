@@ -6,6 +6,19 @@ use isonkaypu::Pass;
 pub const TOOL: &str = "isonkaypu";
 pub const VERSION: &str = env!("CARGO_PKG_VERSION");
 
+/// How many digits of the library's sum people are shown.
+const SHOWN: usize = 12;
+
+/// The proved library that decided, as people are shown it: the first digits of what it was made from.
+pub fn library() -> &'static str {
+    isonkaypu::library().get(..SHOWN).unwrap_or(isonkaypu::library())
+}
+
+/// Who says so: the program, its version, and the proved library that decided.
+pub fn made_by() -> String {
+    format!("{TOOL} {VERSION}, library {}", library())
+}
+
 /// A check in words: the pass, what it is called for people, what it looks at.
 pub struct Check {
     pub pass: Pass,

@@ -12,10 +12,12 @@ use std::ops::Range;
 const TOLD: usize = 40;
 
 /// The first place where a text differs from what an image says of it.
-#[derive(Clone, Debug, PartialEq, Eq)]
+#[derive(Clone, Debug, PartialEq)]
+#[non_exhaustive]
 pub struct Difference {
-    /// The node that carries the name, and its span.
+    /// The node that carries the name.
     pub node: usize,
+    /// Where that should stand.
     pub span: Span,
     /// The name that should stand there.
     pub expected: String,
@@ -25,9 +27,11 @@ pub struct Difference {
 
 /// What stands in a text where a name should.
 #[derive(Clone, Debug, PartialEq, Eq)]
+#[non_exhaustive]
 pub struct Found {
-    /// From 1; columns count characters.
+    /// From 1.
     pub line: usize,
+    /// From 1; columns count characters.
     pub column: usize,
     /// Of one line and not long.
     pub text: String,
@@ -42,7 +46,7 @@ impl Difference {
             nodes.filter(|(_, node)| differs(node)).min_by_key(|(_, node)| (node.from, node.to))?;
         Some(Difference {
             node: number,
-            span: Span { from: node.from, to: node.to },
+            span: Span { start: node.from, end: node.to },
             expected: String::from_utf8_lossy(node.text).into_owned(),
             found: found(node, &Source::of(text)),
         })
@@ -60,7 +64,7 @@ impl Difference {
             }
             None => format!(
                 "`{expected}` should stand at bytes {} to {}, which is no place in the text",
-                span.from, span.to
+                span.start, span.end
             ),
         }
     }
@@ -85,7 +89,7 @@ fn whole_words(text: &[u8], place: Range<usize>) -> Range<usize> {
 }
 
 fn found(node: &Node, source: &Source) -> Option<Found> {
-    let place = source.place(Span { from: node.from, to: node.to })?;
+    let place = source.place(Span { start: node.from, end: node.to })?;
     // a name that is a part of a word is told with that word, to be told apart from itself
     let part = source.bytes()[place.clone()] == *node.text;
     let Range { start, end } = if part { whole_words(source.bytes(), place) } else { place };

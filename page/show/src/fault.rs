@@ -1,26 +1,35 @@
 //! An offence in words, with the contract's own names: what every form for people is made from.
 
 use crate::blanks::{Blanks, text};
-use isonkaypu::{Doubt, Offence, Pass, Place, Report, Span, Verdict};
+use isonkaypu::{Doubt, Offence, Pass, Place, Report, Span};
 use std::borrow::Cow;
 use words::Entry;
 
 /// A place with what to say of it.
-#[derive(Clone, Debug, PartialEq, Eq)]
+#[derive(Clone, Debug, PartialEq)]
+#[non_exhaustive]
 pub struct Mark {
+    /// The node of the image that stands there.
     pub node: usize,
+    /// Where it stands in the source.
     pub span: Span,
+    /// What to say of it: "changed here".
     pub label: String,
 }
 
 /// An offence in words.
-#[derive(Clone, Debug, PartialEq, Eq)]
+#[derive(Clone, Debug, PartialEq)]
+#[non_exhaustive]
 pub struct Fault {
+    /// Document 01's code.
     pub code: u16,
+    /// The pass that found it.
     pub pass: Pass,
+    /// The code in a few words, without names of the contract.
     pub title: String,
     /// "entry `issue` changes `issued`, which its `writes` clause does not name"
     pub sentence: String,
+    /// Where it stands.
     pub here: Mark,
     /// Other places that the rule speaks of: an earlier declaration, another use.
     pub others: Vec<Mark>,
@@ -49,9 +58,7 @@ fn offences(report: &Report) -> Cow<'_, [Offence]> {
     if !list_refused(report) {
         return Cow::Borrowed(report.offences());
     }
-    let firsts = Pass::ALL.map(|pass| report.verdict(pass)).into_iter().filter(|verdict| verdict.code != 0);
-    let first = |v: Verdict| Offence { code: v.code, place: v.place, name: None, related: None };
-    firsts.map(first).collect()
+    Pass::ALL.iter().filter_map(|pass| report.verdict(*pass).offence()).collect()
 }
 
 /// "1 fault", "2 faults"

@@ -9,7 +9,7 @@ mod pieces;
 mod prose;
 mod view;
 
-use crate::about::{TOOL, VERSION};
+use crate::about::{self, TOOL, VERSION};
 use crate::{Subject, Text, escape, sha256};
 use view::View;
 
@@ -59,15 +59,16 @@ fn about(subject: &Subject) -> String {
     let digest =
         |bytes: &[u8]| format!("<code class=\"digest\">{}</code>, {} bytes", sha256::hex(bytes), bytes.len());
     format!(
-        "<footer aria-labelledby=\"about\"><h2 id=\"about\">About this report</h2>\n<dl>{}{}{}{}</dl>\n\
+        "<footer aria-labelledby=\"about\"><h2 id=\"about\">About this report</h2>\n<dl>{}{}{}{}{}</dl>\n\
          <details><summary>The raw numbers</summary><pre>{}</pre></details></footer>\n",
         subject.image().map_or(String::new(), |image| row("Packed contract (SHA-256)", digest(image))),
         match subject.text() {
-            Text::Shown { bytes, .. } => row("Text shown (SHA-256)", digest(bytes)),
-            Text::Other { bytes, .. } => row("Other text, not shown", digest(bytes)),
+            Text::Shown(given) => row("Text shown (SHA-256)", digest(given.bytes)),
+            Text::Other(given, _) => row("Other text, not shown", digest(given.bytes)),
             _ => String::new(),
         },
         row("Checker", format!("{TOOL} {VERSION}")),
+        row("Proved library", format!("<code class=\"digest\">{}</code>", about::library())),
         row("Proved with", escape::html(isonkaypu::kit())),
         escape::html(&crate::numbers(subject)),
     )

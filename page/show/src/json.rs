@@ -5,7 +5,8 @@ pub mod value;
 
 use crate::about::{self, TOOL, VERSION};
 use crate::region::Region;
-use crate::{Difference, Fault, Mark, Outcome, Source, Subject, Text, faults, looks, sha256};
+use crate::unread::Unread;
+use crate::{Difference, Fault, Mark, Source, Subject, Text, faults, sha256};
 use isonkaypu::{Doubt, Pass, Report, Span};
 use value::{Value, list, object};
 
@@ -28,11 +29,12 @@ fn of(subject: &Subject) -> Value {
     object([
         ("schema", SCHEMA.into()),
         ("tool", object([("name", TOOL.into()), ("version", VERSION.into())])),
+        ("library", isonkaypu::library().into()),
         ("kit", isonkaypu::kit().into()),
         ("label", subject.label().into()),
         ("image", subject.image().map(bytes).into()),
         ("source", text(subject.text())),
-        ("outcome", outcome(subject)),
+        ("outcome", outcome(subject, source.as_ref())),
         ("verdicts", report.map(verdicts).into()),
         ("offences", report.map(|report| offences(report, source.as_ref())).into()),
         ("complete", report.map(|report| report.doubts().is_empty()).into()),
@@ -43,18 +45,19 @@ fn of(subject: &Subject) -> Value {
 
 /// The text that was given, and whether it is the image's; of one that was too long there are no sums.
 fn text(text: &Text) -> Value {
-    let (name, state, given, difference) = match text {
+    let (given, state, difference) = match text {
         Text::NotGiven => return Value::Null,
-        Text::Shown { name, bytes } => (name, "same", Some(bytes), None),
-        Text::Other { name, bytes, difference } => (name, "other", Some(bytes), Some(difference)),
-        Text::TooLong { name } => (name, "too long", None, None),
-        Text::NotHeld { name, bytes } => (name, "not compared", Some(bytes), None),
+        Text::Shown(given) => (given, "same", None),
+        Text::Other(given, difference) => (given, "other", Some(difference)),
+        Text::TooLong(given) => (given, "too long", None),
+        Text::NotHeld(given) => (given, "not compared", None),
     };
+    let bytes = Some(given.bytes).filter(|_| state != "too long");
     object([
-        ("name", (*name).into()),
+        ("name", given.name.into()),
         ("state", state.into()),
-        ("sha256", given.map(|bytes| sha256::hex(bytes)).into()),
-        ("length", given.map(|bytes| bytes.len()).into()),
+        ("sha256", bytes.map(sha256::hex).into()),
+        ("length", bytes.map(<[u8]>::len).into()),
         ("difference", difference.map(differs).into()),
     ])
 }
@@ -75,31 +78,37 @@ fn bytes(bytes: &[u8]) -> Value {
     object([("sha256", sha256::hex(bytes).into()), ("length", bytes.len().into())])
 }
 
-fn outcome(subject: &Subject) -> Value {
-    let (result, number) = match subject.outcome() {
-        Outcome::Checked(_) if subject.other_text().is_some() => ("other text", None),
-        Outcome::Checked(_) if subject.accepted() => ("accepted", None),
-        Outcome::Checked(_) => ("refused", None),
-        Outcome::NoImage { refusal, .. } => ("no image", Some(refusal.number())),
-        Outcome::NotPacked(error) => ("no image", Some(error.number())),
+fn outcome(subject: &Subject, source: Option<&Source>) -> Value {
+    let result = match subject.report() {
+        Some(_) if subject.other_text().is_some() => "other text",
+        Some(_) if subject.accepted() => "accepted",
+        Some(_) => "refused",
+        None => "no image",
     };
-    let refusal = number.map(|number| refusal_in_words(subject, number.into()));
+    let refusal = Unread::of(subject).map(|unread| refusal_in_words(&unread, source));
     object([("result", result.into()), ("refusal", refusal.into())])
 }
 
-fn refusal_in_words(subject: &Subject, number: u16) -> Value {
-    let words = words::refusal(number);
+fn refusal_in_words(unread: &Unread, source: Option<&Source>) -> Value {
+    let Unread { number, sentence, mend, span, words } = unread;
     object([
-        ("number", number.into()),
+        ("number", number.map(Value::from).into()),
         ("title", words.map(|w| w.title.as_str()).into()),
+        ("sentence", sentence.as_str().into()),
         ("means", words.map(|w| w.means.as_str()).into()),
         ("matters", words.map(|w| w.matters.as_str()).into()),
-        ("mend", words.map(|w| looks::mend(subject, w)).into()),
+        ("mend", mend.as_str().into()),
+        ("place", span.map(|span| limit_place(span, source)).into()),
     ])
 }
 
+/// Where a contract passes a limit. It has no node: there is no image.
+fn limit_place(at: Span, source: Option<&Source>) -> Value {
+    object([("span", span(at)), ("region", Region::of(source, at).map(|r| region(&r)).into())])
+}
+
 fn verdicts(report: &Report) -> Value {
-    list(Pass::ALL.map(|pass| {
+    list(Pass::ALL.iter().map(|&pass| {
         let verdict = report.verdict(pass);
         object([
             ("pass", pass.word().into()),
@@ -113,7 +122,7 @@ fn verdicts(report: &Report) -> Value {
 }
 
 fn span(span: Span) -> Value {
-    object([("from", span.from.into()), ("to", span.to.into())])
+    object([("from", span.start.into()), ("to", span.end.into())])
 }
 
 /// The faults; where there was no room for the list, the first of each pass, without their names.

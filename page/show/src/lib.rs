@@ -1,5 +1,7 @@
 //! A report in the forms that people and programs read.
 
+#![deny(missing_docs)]
+
 mod about;
 mod blanks;
 mod difference;
@@ -20,7 +22,9 @@ mod subject;
 mod terminal;
 mod text;
 mod tree;
+mod unread;
 
+pub use about::made_by;
 pub use difference::{Difference, Found};
 pub use fault::{Fault, Mark, faults, list_refused};
 pub use html::html;
@@ -28,7 +32,7 @@ pub use json::{json, json_of};
 pub use numbers::numbers;
 pub use sarif::{sarif, sarif_of};
 pub use source::Source;
-pub use subject::{LONGEST_SOURCE, Outcome, Subject, Text};
+pub use subject::{Given, LONGEST_SOURCE, Outcome, Subject, Text};
 pub use terminal::{safe, wrapped};
 pub use text::{text, text_in_colour};
 pub use tree::tree;

@@ -29,11 +29,6 @@ pub fn text_for_image(subject: &Subject) -> bool {
     matches!(subject.outcome(), Outcome::NoImage { image, .. } if like_text(image))
 }
 
-/// How to mend a refusal of this subject, in one line.
-pub fn mend<'w>(subject: &Subject, words: &'w Entry) -> &'w str {
-    if text_for_image(subject) { TEXT_FOR_IMAGE } else { &words.mend }
-}
-
 /// How to mend a refusal of this subject, at length.
 pub fn how<'w>(subject: &Subject, words: &'w Entry) -> &'w str {
     if text_for_image(subject) { TEXT_FOR_IMAGE } else { &words.how }

@@ -28,9 +28,9 @@ pub fn other_text(subject: &Subject) -> Option<OtherText> {
 /// Why a text that may be the image's is not shown.
 pub fn not_shown(subject: &Subject) -> Option<String> {
     match subject.text() {
-        Text::TooLong { name } => Some(format!(
+        Text::TooLong(given) => Some(format!(
             "The text `{}` is too long to show, and was not compared with the image: it has more than {} MiB.",
-            safe(name),
+            safe(given.name),
             LONGEST_SOURCE >> 20
         )),
         _ => None,

@@ -6,18 +6,27 @@ use isonkaypu::{Offence, Pass, Place, Report};
 
 /// "It prints `image N` alone on refusal N. Otherwise: per pass a line (name, code, place, two span
 /// words), `list` and the count (or `list refused 9`), per record a line".
+///
+/// Of a contract that has no image, `image N` is what its image would be refused with. Document 01 has no
+/// number, and no line, for an image that does not say what the contract says; then it is `not packed`, which
+/// nobody can take for a line of document 01.
 pub fn numbers(subject: &Subject) -> String {
     match subject.outcome() {
         Outcome::NoImage { refusal, .. } => format!("image {}\n", refusal.number()),
+        Outcome::NotPacked(error) if error.number() == 0 => "not packed\n".to_string(),
         Outcome::NotPacked(error) => format!("image {}\n", error.number()),
-        Outcome::Checked(report) => Pass::ALL.map(|pass| pass_line(report, pass)).concat() + &list(report),
+        Outcome::Checked(report) => pass_lines(report) + &list(report),
     }
+}
+
+fn pass_lines(report: &Report) -> String {
+    Pass::ALL.iter().map(|pass| pass_line(report, *pass)).collect()
 }
 
 fn pass_line(report: &Report, pass: Pass) -> String {
     let verdict = report.verdict(pass);
-    let Place { node, span } = verdict.place;
-    format!("{} {} {node} {} {}\n", pass.word(), verdict.code, span.from, span.to)
+    let Place { node, span, .. } = verdict.place;
+    format!("{} {} {node} {} {}\n", pass.word(), verdict.code, span.start, span.end)
 }
 
 fn list(report: &Report) -> String {
@@ -29,7 +38,7 @@ fn list(report: &Report) -> String {
 }
 
 fn record(offence: &Offence) -> String {
-    let Place { node, span } = offence.place;
+    let Place { node, span, .. } = offence.place;
     let related = offence.related.map_or(0, |place| place.node);
-    format!("{} {node} {related} {} {}\n", offence.code, span.from, span.to)
+    format!("{} {node} {related} {} {}\n", offence.code, span.start, span.end)
 }

@@ -52,6 +52,7 @@ fn driver() -> Value {
 
 fn properties(subjects: &[Subject]) -> Value {
     object([
+        ("library", isonkaypu::library().into()),
         ("kit", isonkaypu::kit().into()),
         ("complete", subjects.iter().all(is_complete).into()),
         ("images", list(subjects.iter().map(image))),
@@ -69,15 +70,16 @@ fn image(subject: &Subject) -> Value {
     ])
 }
 
-/// What the label names: the source where it is shown, else the image.
+/// What the label names: the source where it is shown, else the image. Of a contract that has no image, and
+/// whose text is not at hand, there are no bytes to speak of.
 fn artifact(subject: &Subject) -> Value {
-    let bytes = subject.source().or(subject.image()).unwrap_or_default();
+    let bytes = subject.source().or(subject.image());
     object([
         ("location", object([("uri", escape::uri(subject.label()).into())])),
-        ("length", bytes.len().into()),
         ("roles", list(["analysisTarget"])),
-        ("hashes", object([("sha-256", sha256::hex(bytes).into())])),
     ])
+    .with("length", bytes.map(|bytes| bytes.len().into()))
+    .with("hashes", bytes.map(|bytes| object([("sha-256", sha256::hex(bytes).into())])))
 }
 
 /// Did every check run, is every answer to be relied on, and is the text, if any, the image's?
@@ -122,7 +124,7 @@ fn said(fault: &Fault) -> String {
 
 fn trouble_result(trouble: &Trouble, places: &Places) -> Value {
     of_rule(&trouble.id, message(&trouble.says))
-        .with("locations", Some(list([places.whole()])))
+        .with("locations", Some(list([places.whole(trouble.span)])))
         .with("partialFingerprints", Some(fingerprint::of(&[&trouble.id])))
 }
 

@@ -16,6 +16,7 @@ pub struct Source<'a> {
 }
 
 impl<'a> Source<'a> {
+    /// The lines of these bytes.
     pub fn of(bytes: &'a [u8]) -> Source<'a> {
         let after_breaks = bytes.iter().enumerate().filter(|(_, b)| **b == b'\n').map(|(i, _)| i + 1);
         let starts = std::iter::once(0).chain(after_breaks).collect();
@@ -28,6 +29,7 @@ impl<'a> Source<'a> {
         self.chars(n).enumerate().step_by(STEP).map(|(column, (bytes, _))| (bytes.start, column))
     }
 
+    /// All of its bytes.
     pub fn bytes(&self) -> &'a [u8] {
         self.bytes
     }
@@ -99,7 +101,7 @@ impl<'a> Source<'a> {
 
     /// The bytes of a span that lies in the source, in order.
     pub fn place(&self, span: Span) -> Option<Range<usize>> {
-        let place = span.from as usize..span.to as usize;
+        let place = span.start as usize..span.end as usize;
         (place.start <= place.end && place.end <= self.bytes.len()).then_some(place)
     }
 }
@@ -146,7 +148,7 @@ mod tests {
     #[test]
     fn spans() {
         let source = Source::of(b"abc");
-        let place = |from, to| source.place(Span { from, to });
+        let place = |start, end| source.place(Span { start, end });
         assert_eq!([place(0, 3), place(3, 3), place(1, 2)], [Some(0..3), Some(3..3), Some(1..2)]);
         assert_eq!([place(2, 1), place(0, 4), place(u32::MAX, u32::MAX)], [None, None, None]);
     }

@@ -15,25 +15,41 @@ pub enum Outcome<'a> {
     /// Its image was admitted and checked; the report holds the image.
     Checked(&'a Report),
     /// The bytes are no image.
-    NoImage { image: &'a [u8], refusal: ImageRefusal },
+    NoImage {
+        /// The bytes.
+        image: &'a [u8],
+        /// Why they are none.
+        refusal: ImageRefusal,
+    },
     /// It has no image, since it passes a limit of the image form.
     NotPacked(PackError),
 }
 
+/// A text that was given with a contract.
+#[derive(Clone, Copy, Debug, PartialEq, Eq)]
+#[non_exhaustive]
+pub struct Given<'a> {
+    /// What the reader calls it.
+    pub name: &'a str,
+    /// Its bytes.
+    pub bytes: &'a [u8],
+}
+
 /// What became of the text that was given with a contract.
-#[derive(Clone, Debug, PartialEq, Eq)]
+#[derive(Clone, Debug, PartialEq)]
+#[non_exhaustive]
 pub enum Text<'a> {
     /// None was given.
     NotGiven,
     /// It is shown: it has every name where the image says, or there is no image that could say so since
     /// the contract could not be packed.
-    Shown { name: &'a str, bytes: &'a [u8] },
-    /// It is not the one that the image was made from. Nothing of it is shown.
-    Other { name: &'a str, bytes: &'a [u8], difference: Difference },
+    Shown(Given<'a>),
+    /// It is not the one that the image was made from: where it first differs. Nothing of it is shown.
+    Other(Given<'a>, Difference),
     /// It is longer than `LONGEST_SOURCE`, and was not looked at.
-    TooLong { name: &'a str },
+    TooLong(Given<'a>),
     /// There is no image that it could be held against.
-    NotHeld { name: &'a str, bytes: &'a [u8] },
+    NotHeld(Given<'a>),
 }
 
 /// What every form is made from.
@@ -63,11 +79,12 @@ impl<'a> Subject<'a> {
     /// into it. Any bytes may be given: those that differ from what the image says are not shown, and every
     /// form says so.
     pub fn with_source(self, name: &'a str, source: &'a [u8]) -> Subject<'a> {
+        let given = Given { name, bytes: source };
         let text = match (self.outcome, source.len() > LONGEST_SOURCE) {
-            (_, true) => Text::TooLong { name },
-            (Outcome::NoImage { .. }, _) => Text::NotHeld { name, bytes: source },
-            (Outcome::NotPacked(_), _) => Text::Shown { name, bytes: source },
-            (Outcome::Checked(report), _) => held(report.tree(), name, source),
+            (_, true) => Text::TooLong(given),
+            (Outcome::NoImage { .. }, _) => Text::NotHeld(given),
+            (Outcome::NotPacked(_), _) => Text::Shown(given),
+            (Outcome::Checked(report), _) => held(report.tree(), given),
         };
         Subject { text, ..self }
     }
@@ -75,7 +92,7 @@ impl<'a> Subject<'a> {
     /// What the reader calls what the report is about: the text where it is shown, else the image.
     pub fn label(&self) -> &'a str {
         match self.text {
-            Text::Shown { name, .. } => name,
+            Text::Shown(given) => given.name,
             _ => self.label,
         }
     }
@@ -85,6 +102,7 @@ impl<'a> Subject<'a> {
         self.label
     }
 
+    /// What became of it.
     pub fn outcome(&self) -> Outcome<'a> {
         self.outcome
     }
@@ -119,7 +137,7 @@ impl<'a> Subject<'a> {
     /// The contract's text, where it is shown.
     pub fn source(&self) -> Option<&'a [u8]> {
         match self.text {
-            Text::Shown { bytes, .. } => Some(bytes),
+            Text::Shown(given) => Some(given.bytes),
             _ => None,
         }
     }
@@ -127,17 +145,17 @@ impl<'a> Subject<'a> {
     /// The name of a text that is not the image's, and where it first differs.
     pub fn other_text(&self) -> Option<(&'a str, &Difference)> {
         match &self.text {
-            Text::Other { name, difference, .. } => Some((name, difference)),
+            Text::Other(given, difference) => Some((given.name, difference)),
             _ => None,
         }
     }
 }
 
 /// The text held against the names of the image. Every admitted image has a tree.
-fn held<'a>(tree: Option<Tree>, name: &'a str, bytes: &'a [u8]) -> Text<'a> {
-    match tree.map(|tree| Difference::first(&tree, bytes)) {
-        Some(None) => Text::Shown { name, bytes },
-        Some(Some(difference)) => Text::Other { name, bytes, difference },
-        None => Text::NotHeld { name, bytes },
+fn held<'a>(tree: Option<Tree>, given: Given<'a>) -> Text<'a> {
+    match tree.map(|tree| Difference::first(&tree, given.bytes)) {
+        Some(None) => Text::Shown(given),
+        Some(Some(difference)) => Text::Other(given, difference),
+        None => Text::NotHeld(given),
     }
 }

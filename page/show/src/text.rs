@@ -1,15 +1,17 @@
 //! A report for people at a terminal: a banner, each fault with its place in the source and how to
 //! mend it, and what was not checked.
 
+use crate::about::made_by;
 use crate::excerpt::Excerpt;
 use crate::fault::{Fault, Mark, counted, faults, list_refused};
 use crate::ink::Ink;
 use crate::source::Source;
-use crate::subject::{Outcome, Subject};
+use crate::subject::Subject;
 use crate::terminal::{safe, wrapped};
-use crate::{about, looks, notice};
+use crate::unread::Unread;
+use crate::{about, notice};
 use form::Tree;
-use isonkaypu::{Pass, Report};
+use isonkaypu::{Pass, Report, Span};
 
 /// The report as text. Where the source is missing, or a place is not in it, the entry, the node's number
 /// and the span stand instead.
@@ -23,24 +25,37 @@ pub fn text_in_colour(subject: &Subject) -> String {
 }
 
 fn written(subject: &Subject, ink: Ink) -> String {
-    match subject.outcome() {
-        Outcome::NoImage { refusal, .. } => not_read(subject, refusal.number(), ink),
-        Outcome::NotPacked(error) => not_read(subject, error.number(), ink),
-        Outcome::Checked(report) => checked(subject, report, ink),
-    }
+    let checked = subject.report().map(|report| checked(subject, report, ink));
+    let unread = Unread::of(subject).map(|unread| not_read(subject, &unread, ink));
+    checked.or(unread).unwrap_or_default() + &made_by() + "\n"
 }
 
-fn not_read(subject: &Subject, number: u8, ink: Ink) -> String {
-    let number = u16::from(number);
-    let words = words::refusal(number);
-    let fault = words.map_or("", |words| words.fault.as_str());
+fn not_read(subject: &Subject, unread: &Unread, ink: Ink) -> String {
+    let tag = unread.number.map_or("not packed".to_string(), |number| format!("image {number}"));
+    let place = unread.span.map_or(String::new(), |span| limit_place(subject, span, ink));
     format!(
-        "{}  {}\n\n{}{}\nNothing was checked.\n",
+        "{}  {}\n\n{}{place}{}\nNothing was checked.\n",
         ink.open("NOT READ"),
         safe(subject.label()),
-        headed(&ink.bad(&format!("[image {number}]")), &format!("image {number}"), fault),
-        mend(words.map_or("", |words| looks::mend(subject, words)), ink),
+        headed(&ink.bad(&format!("[{tag}]")), &tag, &unread.sentence),
+        mend(&unread.mend, ink),
     )
+}
+
+/// Where a contract passes a limit: its line, or the bytes where the source does not show it.
+fn limit_place(subject: &Subject, span: Span, ink: Ink) -> String {
+    let Span { start, end } = span;
+    let source = subject.source().map(Source::of);
+    match source.as_ref().map(|source| source.place(span).map(|place| Excerpt::of(source, place))) {
+        Some(Some(excerpt)) => {
+            let at = excerpt.position().map(|(line, column)| format!(":{line}:{column}")).unwrap_or_default();
+            let width = excerpt.line.to_string().len();
+            let marked = excerpt.underlined(width, '^', |signs| ink.bad(signs), "here");
+            format!("  {}{at}\n{}\n{marked}\n", safe(subject.label()), excerpt.numbered(width))
+        }
+        Some(None) => format!("  bytes {start} to {end}, which is no place in the text\n"),
+        None => format!("  bytes {start} to {end} of the text\n"),
+    }
 }
 
 /// A number in brackets and its sentence.
@@ -103,9 +118,8 @@ fn answer(report: &Report, count: usize) -> (&'static str, String) {
 /// "3 faults: names 1, access 1, lots 1"; nothing where there are none.
 fn summary(report: &Report, faults: &[Fault]) -> String {
     let count = |pass: Pass| faults.iter().filter(|fault| fault.pass == pass).count();
-    let counts = Pass::ALL.map(|pass| (about::word(pass), count(pass)));
-    let counts: Vec<String> =
-        counts.iter().filter(|(_, n)| *n > 0).map(|(w, n)| format!("{w} {n}")).collect();
+    let counts = Pass::ALL.iter().map(|pass| (about::word(*pass), count(*pass)));
+    let counts: Vec<String> = counts.filter(|(_, n)| *n > 0).map(|(word, n)| format!("{word} {n}")).collect();
     match (faults.is_empty(), list_refused(report)) {
         (true, _) => String::new(),
         (false, false) => format!("{}: {}\n", counted(faults.len()), counts.join(", ")),
@@ -173,6 +187,6 @@ impl Page<'_> {
         let entry = tree.and_then(|tree| Some(crate::blanks::text(tree, tree.entry_of(*node)? + 1)));
         let within = entry.map_or("outside of the entries".to_string(), |name| format!("in entry `{name}`"));
         let outside = if self.source { ", which is no place in the text" } else { "" };
-        format!("  {within}, node {node}, bytes {} to {}{outside}: {label}\n", span.from, span.to)
+        format!("  {within}, node {node}, bytes {} to {}{outside}: {label}\n", span.start, span.end)
     }
 }

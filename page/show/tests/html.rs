@@ -263,3 +263,39 @@ fn show_all(image: &[u8]) {
         assert!(shown(form, "x", image, Some(b"text")).ends_with("}\n"));
     }
 }
+
+/// A contract that has no image: the limit's own sentence as the heading, and its line with the place marked.
+#[test]
+fn not_packed() {
+    for limit in common::LIMITS {
+        let html = common::umlaut(show::html, limit);
+        sound(&html);
+        let number = match limit.number() {
+            0 => String::new(),
+            number => format!(" <span class=\"at\">image {number}</span>"),
+        };
+        let (title, _) = html.split_once(&format!("{number}</h2><dl>")).expect("a heading");
+        let sentence = limit.to_string();
+        let begins = &sentence[1..sentence.find('`').unwrap_or(sentence.len())];
+        assert!(title.rsplit("<h2>").next().is_some_and(|title| title.contains(begins)), "{title}");
+        assert!(html.contains("<dt>Where</dt><dd><p>Line 2, column 13</p>"), "{html}");
+        let marked = "<code class=\"excerpt\">state { <mark class=\"here\">ausgabe_für</mark>: u64; }</code>";
+        assert!(html.contains(marked), "{html}");
+        assert!(html.contains("<dt>What to do</dt>"), "{html}");
+    }
+    let ours = common::umlaut(show::html, isonkaypu::Limit::Unlike);
+    assert!(ours.contains("Nothing in the contract is at fault") && !ours.contains("image 0"), "{ours}");
+}
+
+#[test]
+fn not_packed_without_its_line() {
+    let shown = |at, source| common::not_packed(show::html, isonkaypu::Limit::Nodes, at, source);
+    assert!(shown((3, 9), None).contains("<p>Bytes 3 to 9 of the contract’s text</p>"));
+    let text = "contract C { }\n";
+    for at in [(9, 3), (0, u32::MAX)] {
+        let html = shown(at, Some(text.as_bytes()));
+        sound(&html);
+        assert!(html.contains("which is no place in this text</p>"), "{html}");
+    }
+    sound(&shown((15, 15), Some(text.as_bytes())));
+}

@@ -5,6 +5,7 @@ mod common;
 use common::chance::Chance;
 use common::json::Json;
 use common::{fitted, images, respanned, sample, shown, shown_source, shown_ward};
+use isonkaypu::Limit;
 
 const KEYS: &[&str] = &[
     "complete",
@@ -12,6 +13,7 @@ const KEYS: &[&str] = &[
     "image",
     "kit",
     "label",
+    "library",
     "not_checked",
     "offences",
     "outcome",
@@ -32,6 +34,7 @@ fn a_faulty_contract() {
     let json = Json::read(&shown_ward(show::json));
     assert_eq!(keys(&json), KEYS);
     assert_eq!(json.at("outcome/result").text(), "refused");
+    assert_eq!(json.at("library").text(), isonkaypu::library());
     let codes: Vec<u64> = json.at("offences").list().iter().map(|o| o.at("code").number()).collect();
     assert_eq!(codes, [30, 51, 62]);
     for offence in json.at("offences").list() {
@@ -79,6 +82,34 @@ fn no_image() {
     assert_eq!((json.at("verdicts"), json.at("offences")), (&Json::Null, &Json::Null));
     let gaps: Vec<&str> = json.at("not_checked").list().iter().map(Json::text).collect();
     assert_eq!(gaps, ["names", "access", "lots", "supply (conserve)", "signed authority"]);
+}
+
+/// A contract that has no image: the limit's own sentence, and its place.
+#[test]
+fn not_packed() {
+    let keys_of_refusal = ["matters", "means", "mend", "number", "place", "sentence", "title"];
+    for limit in common::LIMITS {
+        let json = Json::read(&common::umlaut(show::json, limit));
+        assert_eq!(keys(&json), KEYS);
+        assert_eq!((json.at("outcome/result").text(), json.at("image")), ("no image", &Json::Null));
+        let refusal = json.at("outcome/refusal");
+        assert_eq!(keys(refusal), keys_of_refusal);
+        assert_eq!(refusal.at("sentence").text(), limit.to_string());
+        assert!(!refusal.at("mend").text().is_empty());
+        match limit.number() {
+            0 => assert_eq!(refusal.at("number"), &Json::Null),
+            number => assert_eq!(refusal.at("number").number(), number.into()),
+        }
+        assert_eq!(cut(common::UMLAUT, refusal.at("place")), "ausgabe_für");
+        assert_eq!(refusal.at("place/region/start_line").number(), 2);
+        assert_eq!(refusal.at("place/region/end_column").number(), 24);
+    }
+    let alone = Json::read(&common::not_packed(show::json, Limit::Nodes, (3, 9), None));
+    assert_eq!(alone.at("outcome/refusal/place/span/from").number(), 3);
+    assert_eq!(alone.at("outcome/refusal/place/region"), &Json::Null);
+    let no_image = Json::read(&shown(show::json, "x", b"no image", None));
+    assert_eq!(keys(no_image.at("outcome/refusal")), keys_of_refusal);
+    assert_eq!(no_image.at("outcome/refusal/place"), &Json::Null);
 }
 
 /// Without the source there are names and node numbers, and no regions.

@@ -156,7 +156,7 @@ shown.
 Checked: names, access, lots. NOT checked: supply (conserve), signed authority
 ";
     let shown = other_text_accepted(show::text);
-    assert_eq!(shown, expected);
+    assert_eq!(shown, format!("{expected}{}\n", show::made_by()));
     assert!(other_text(show::text).contains("The image alone is refused: 3 faults. "));
 }
 
@@ -241,7 +241,7 @@ fn too_long_to_show() {
 fn no_image_and_a_text() {
     let report = isonkaypu::check_image(b"no image").expect_err("no image");
     let subject = Subject::no_image("x.image", b"no image", report).with_source("x.quanta", b"contract");
-    assert!(matches!(subject.text(), Text::NotHeld { .. }) && subject.source().is_none());
+    assert!(matches!(subject.text(), Text::NotHeld(_)) && subject.source().is_none());
     assert_eq!((subject.label(), subject.accepted()), ("x.image", false));
     assert!(!show::html(&subject).contains("<div class=\"code\""));
     assert_eq!(Json::read(&show::json(&subject)).at("source/state").text(), "not compared");

@@ -259,6 +259,34 @@ fn no_image() {
     assert_eq!(run.at("properties/images/0/checked"), &Json::List(vec![]));
 }
 
+/// A contract that has no image: the limit's own sentence, at its place.
+#[test]
+fn not_packed() {
+    for limit in common::LIMITS {
+        let log = admitted(&common::umlaut(show::sarif, limit));
+        let run = log.at("runs/0");
+        assert_eq!(run.at("invocations/0/executionSuccessful"), &Json::Bool(false));
+        assert_eq!(run.at("results").list().len(), 1);
+        let rule = match limit.number() {
+            0 => "doubt".to_string(),
+            number => format!("image-{number}"),
+        };
+        assert_eq!(run.at("results/0/ruleId").text(), rule);
+        let said = [run.at("results/0"), run.at("invocations/0/toolExecutionNotifications/0")];
+        for said in said {
+            assert!(said.at("message/text").text().contains(&limit.to_string()), "{limit}");
+        }
+        let region = run.at("results/0/locations/0/physicalLocation/region");
+        assert_eq!((region.at("startLine").number(), region.at("startColumn").number()), (2, 13));
+        assert_eq!(region.at("endColumn").number(), 24);
+    }
+    // without its text there are no bytes to speak of, and no place
+    let log = admitted(&common::not_packed(show::sarif, isonkaypu::Limit::Nodes, (3, 9), None));
+    let run = log.at("runs/0");
+    assert_eq!(run.at("results/0/locations/0/physicalLocation/region"), &Json::Null);
+    assert_eq!((run.at("artifacts/0/length"), run.at("artifacts/0/hashes")), (&Json::Null, &Json::Null));
+}
+
 #[test]
 fn without_the_source() {
     let log = admitted(&shown(show::sarif, "ward.image", &sample("ward.image"), None));

@@ -54,7 +54,7 @@ fn places_and_labels() {
     assert_eq!((fault.code, fault.pass, fault.entry.as_deref()), (25, Pass::Resolve, Some("e")));
     let related = fault.others.first().expect("related");
     assert_eq!((fault.here.label.as_str(), related.label.as_str()), ("named again here", "named first here"));
-    assert!(related.node < fault.here.node && related.span.from < fault.here.span.from);
+    assert!(related.node < fault.here.node && related.span.start < fault.here.span.start);
     let fault = only("invariant x;");
     assert_eq!((fault.pass, fault.entry, fault.others), (Pass::Access, None, vec![]));
 }

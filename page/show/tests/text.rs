@@ -2,6 +2,7 @@
 
 mod common;
 
+use isonkaypu::Limit;
 use show::text;
 
 const WARD: &str = "\
@@ -18,9 +19,25 @@ contract WardStock {
 }
 ";
 
-/// The text for an image with a source, or without.
+/// The text for an image with a source, or without, up to its last line, which is always the same.
 fn shown(image: &[u8], source: Option<&[u8]>) -> String {
-    common::shown(text, "ward.quanta", image, source)
+    without_last_line(common::shown(text, "ward.quanta", image, source))
+}
+
+fn without_last_line(text: String) -> String {
+    text.strip_suffix(&(show::made_by() + "\n")).expect("the last line says who made the report").to_string()
+}
+
+/// The last line: the program, its version, and 12 digits of the library that decided.
+#[test]
+fn who_says_so() {
+    let digits = common::library_digits();
+    let expected = format!("isonkaypu {}, library {digits}", env!("CARGO_PKG_VERSION"));
+    let image = example::image(ONE_FAULT);
+    for bytes in [&image[..], b"no image"] {
+        let text = common::shown(text, "ward.quanta", bytes, None);
+        assert_eq!(text.lines().last(), Some(expected.as_str()));
+    }
 }
 
 /// The text for an example, with itself as the source.
@@ -91,6 +108,55 @@ NOT READ  ward.quanta
 Nothing was checked.
 ";
     assert_eq!(of("contract Empty { state { 3mg: u64; } }"), not_read);
+}
+
+/// A contract that has no image: the limit in its own words, and the line where it is passed.
+#[test]
+fn not_packed() {
+    let expected = "\
+NOT READ  ward.quanta
+
+[image 5] a name has something else than letters, digits and `_`
+  ward.quanta:2:13
+  2 |     state { ausgabe_für: u64; }
+    |             ^^^^^^^^^^^ here
+  mend: write names with plain letters, digits and `_` only, and make long names shorter
+
+Nothing was checked.
+";
+    assert_eq!(without_last_line(common::umlaut(text, Limit::NameForm)), expected);
+    for limit in common::LIMITS {
+        let text = common::umlaut(text, limit);
+        let first = text.lines().nth(2).expect("a sentence");
+        assert!(first.ends_with(&format!("] {limit}")), "{text}");
+        assert!(text.contains("\n    |             ^^^^^^^^^^^ here\n"), "{text}");
+    }
+}
+
+/// What document 01 has no number for gets none, and the uploader is not told to mend what they cannot.
+#[test]
+fn not_packed_by_our_own_fault() {
+    for (limit, tag) in [(Limit::Unlike, "[not packed] "), (Limit::Refused(8), "[image 8] ")] {
+        let text = common::umlaut(text, limit);
+        assert_eq!(text.lines().nth(2), Some(format!("{tag}{limit}").as_str()));
+        assert!(
+            text.contains("\n  mend: nothing in the contract is at fault; the page's engineer"),
+            "{text}"
+        );
+    }
+}
+
+#[test]
+fn not_packed_without_its_line() {
+    let place = |at, source| {
+        let text = common::not_packed(text, Limit::Nodes, at, source);
+        text.lines().nth(3).expect("a place").to_string()
+    };
+    assert_eq!(place((3, 9), None), "  bytes 3 to 9 of the text");
+    for at in [(9, 3), (0, u32::MAX)] {
+        let expected = format!("  bytes {} to {}, which is no place in the text", at.0, at.1);
+        assert_eq!(place(at, Some(b"contract C { }")), expected);
+    }
 }
 
 /// A contract with one fault, 30, at a node that carries no name, so that its span may be anything.
@@ -230,7 +296,7 @@ fn colours_change_no_word() {
         (&example::image("contract C { }"), None),
     ];
     for (image, source) in texts {
-        let plain = shown(image, source);
+        let plain = common::shown(text, "ward.quanta", image, source);
         let coloured = common::shown(show::text_in_colour, "ward.quanta", image, source);
         assert!(!plain.contains('\u{1b}') && coloured.contains("\u{1b}[1;3"), "{coloured}");
         assert_eq!(without_colours(&coloured), plain);

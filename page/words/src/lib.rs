@@ -1,6 +1,8 @@
 //! What each code of a report and each refusal of an image means, in words for a pharmacist. They
 //! stand in one file, `words.txt`; help, `explain`, text, HTML and SARIF are made from it.
 
+#![deny(missing_docs)]
+
 mod help;
 mod read;
 
@@ -14,7 +16,9 @@ pub const WORDS: &str = include_str!("../words.txt");
 
 /// What there is to say of one number.
 #[derive(Clone, Debug, Default, PartialEq, Eq)]
+#[non_exhaustive]
 pub struct Entry {
+    /// Document 01's number.
     pub number: u16,
     /// A few words, without names of the contract.
     pub title: String,
@@ -23,10 +27,13 @@ pub struct Entry {
     pub fault: String,
     /// The sentence where the offence has no related place, for the one code where that differs.
     pub alone: String,
-    /// What stands at the place, and at the related place where the rule has one.
+    /// What stands at the place.
     pub here: String,
+    /// What stands at the related place, where the rule has one.
     pub there: String,
+    /// What the rule looks at.
     pub means: String,
+    /// Why a ward should care.
     pub matters: String,
     /// How to mend it, in one line, with blanks as in `fault`.
     pub mend: String,
@@ -34,32 +41,42 @@ pub struct Entry {
     pub kept: String,
     /// How to mend it, at length and without blanks.
     pub how: String,
-    /// An example that shows it, and the same mended. Empty for refusals that no source can show.
+    /// An example that shows it. Empty for refusals that no source can show.
     pub before: String,
+    /// The same, mended.
     pub after: String,
 }
 
 /// A word of the language, a line of the report or an exit status, in plain words.
 #[derive(Clone, Debug, PartialEq, Eq)]
+#[non_exhaustive]
 pub struct Term {
+    /// The word, the line or the status.
     pub word: String,
+    /// What it means.
     pub means: String,
 }
 
 /// Everything that the file says, in its order.
 #[derive(Clone, Debug, Default, PartialEq, Eq)]
+#[non_exhaustive]
 pub struct Words {
+    /// The words of the language.
     pub glossary: Vec<Term>,
+    /// The lines of a report.
     pub lines: Vec<Term>,
+    /// The exit statuses.
     pub statuses: Vec<Term>,
+    /// The refusals of an image.
     pub refusals: Vec<Entry>,
+    /// The codes of offences.
     pub codes: Vec<Entry>,
 }
 
 /// How a report for people begins where the text that was given is not the image's.
 pub const OTHER_TEXT: &str = "OTHER TEXT";
 
-/// The last line of every report on a contract.
+/// What every report on a contract says at its end.
 pub const CHECKED: &str = "Checked: names, access, lots. NOT checked: supply (conserve), signed authority";
 
 /// The codes of document 01, in the report's order.

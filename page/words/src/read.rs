@@ -6,8 +6,11 @@ use std::fmt;
 
 /// What is wrong with a file of words, and in which line.
 #[derive(Clone, Debug, PartialEq, Eq)]
+#[non_exhaustive]
 pub struct Trouble {
+    /// The line of the file, from 1.
     pub line: usize,
+    /// What is wrong there.
     pub what: String,
 }
 

@@ -7,7 +7,7 @@ mod tree;
 
 use crate::build::*;
 use crate::{Node, Parts, ident, name, node, number};
-use reference::kind;
+use form::kind;
 
 pub struct Limit {
     pub name: String,

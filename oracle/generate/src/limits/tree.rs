@@ -2,7 +2,7 @@
 
 use super::*;
 use crate::leaf;
-use reference::image::RawNode;
+use form::image::RawNode;
 
 pub fn all() -> Vec<Limit> {
     [depths(), nodes(), kinds(), children(), unused()].into_iter().flatten().collect()

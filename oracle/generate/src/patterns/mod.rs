@@ -18,7 +18,7 @@ pub use page::p2;
 
 use crate::build::*;
 use crate::{Node, name, node};
-use reference::{Record, kind};
+use form::kind;
 
 pub struct Pattern {
     pub name: &'static str,
@@ -27,20 +27,17 @@ pub struct Pattern {
 }
 
 impl Pattern {
-    /// The full list, with the marks turned into node numbers.
-    pub fn list(&self) -> Vec<Record> {
+    /// The full list, each record as its three words, with the marks turned into node numbers.
+    pub fn list(&self) -> Vec<[u16; 3]> {
         self.list.split_whitespace().map(|text| self.record(text)).collect()
     }
 
-    fn record(&self, text: &str) -> Record {
+    fn record(&self, text: &str) -> [u16; 3] {
         let (code, marks) = text.split_at(2);
         let place = |mark| self.tree.place(mark).unwrap_or(usize::MAX) as u16;
         let mut places = marks.chars().map(place);
-        Record {
-            code: code.parse().unwrap_or(0),
-            place: places.next().unwrap_or(0),
-            related: places.next().unwrap_or(0),
-        }
+        let mut next = || places.next().unwrap_or(0);
+        [code.parse().unwrap_or(0), next(), next()]
     }
 }
 

@@ -1,12 +1,15 @@
 //! The top of the page: the answer in words, the three checks, and what was not checked.
 
+use super::excerpt::excerpt;
 use super::prose;
 use super::view::{Item, View};
 use crate::about::{self, Check, Gap};
 use crate::fault::counted;
 use crate::notice::{self, OtherText};
+use crate::region::Region;
+use crate::unread::Unread;
 use crate::{Outcome, escape, list_refused, looks};
-use isonkaypu::{Doubt, Pass, Report};
+use isonkaypu::{Doubt, Pass, Report, Span};
 
 /// How many faults the banner names one by one.
 const SUMMARY: usize = 8;
@@ -56,8 +59,7 @@ fn answer(view: &View) -> Answer {
                 doubts(report) + &summary(view)
             ),
         },
-        Outcome::NoImage { refusal, .. } => unread(title, why(view, refusal.number(), &refusal)),
-        Outcome::NotPacked(error) => unread(title, why(view, error.number(), &error)),
+        _ => unread(view, title),
     }
 }
 
@@ -78,8 +80,13 @@ fn other_text(view: &View, title: String, other: &OtherText) -> Answer {
     Answer { class: "other", title, drawing: "M6 9h12M6 15h12M16 5L8 19", html }
 }
 
-fn unread(title: String, why: String) -> Answer {
-    let html = format!("<p>The packed contract could not be read, so nothing was checked.</p>{why}");
+fn unread(view: &View, title: String) -> Answer {
+    let what = match view.subject.image() {
+        Some(_) => "The packed contract could not be read, so nothing was checked.",
+        None => "The contract could not be packed for the checks, so nothing was checked.",
+    };
+    let why = Unread::of(view.subject).map_or(String::new(), |unread| why(view, &unread));
+    let html = format!("<p>{what}</p>{why}");
     Answer { class: "unread", title, drawing: "M12 5v9M12 18v1", html }
 }
 
@@ -116,21 +123,37 @@ fn summary(view: &View) -> String {
     format!("<ol>{rows}</ol>{more}")
 }
 
-/// Why an image could not be read, in the words of its refusal.
-fn why(view: &View, number: u8, error: &dyn std::fmt::Display) -> String {
-    let Some(words) = words::refusal(number.into()) else {
-        return format!("<p>{}</p>", escape::html(&error.to_string()));
+/// Why nothing was checked: of bytes in the words of their refusal, of a contract by the limit that it passes
+/// and where.
+fn why(view: &View, unread: &Unread) -> String {
+    let Unread { number, sentence, mend, span, words } = unread;
+    let part = |title: &str, html: &str| format!("<div><dt>{title}</dt><dd>{html}</dd></div>");
+    let said = |title: &str, text: Option<&str>| {
+        text.map_or(String::new(), |text| part(title, &prose::paragraphs(text)))
     };
-    let part =
-        |title: &str, text: &str| format!("<div><dt>{title}</dt><dd>{}</dd></div>", prose::paragraphs(text));
+    let number = number.map_or(String::new(), |n| format!(" <span class=\"at\">image {n}</span>"));
+    // of a contract the number stands for several limits, so its own sentence is the heading
+    let title = words.filter(|_| span.is_none()).map_or(sentence.as_str(), |words| &words.title);
     format!(
-        "<h2>{} <span class=\"at\">image {}</span></h2><dl>{}{}{}</dl>",
-        prose::sentence(&words.title),
-        words.number,
-        part("What it means", &words.means),
-        part("Why it matters", &words.matters),
-        part("What to do", looks::how(view.subject, words)),
+        "<h2>{}{number}</h2><dl>{}{}{}{}</dl>",
+        prose::sentence(title),
+        span.map_or(String::new(), |span| part("Where", &limit_place(view, span))),
+        said("What it means", words.map(|words| words.means.as_str())),
+        said("Why it matters", words.map(|words| words.matters.as_str())),
+        said("What to do", Some(words.map_or(mend, |words| looks::how(view.subject, words)))),
     )
+}
+
+/// Where a contract passes a limit: the line with the place marked, or the bytes where the text does not show it.
+fn limit_place(view: &View, span: Span) -> String {
+    let Span { start, end } = span;
+    match (&view.source, Region::of(view.source.as_ref(), span)) {
+        (Some(source), Some(region)) => {
+            format!("<p>{}</p>{}", prose::sentence(&region.in_words()), excerpt(source, &region, "here"))
+        }
+        (Some(_), None) => format!("<p>Bytes {start} to {end}, which is no place in this text</p>"),
+        (None, _) => format!("<p>Bytes {start} to {end} of the contract’s text</p>"),
+    }
 }
 
 /// The banner.

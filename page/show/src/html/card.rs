@@ -108,7 +108,7 @@ fn place(view: &View, id: &str, mark: &Mark, region: &Option<Region>, class: &st
         ),
         (Some(_), None) => format!(
             "<p>Node {node}{label} (its place, bytes {} to {}, is not in this text)</p>",
-            mark.span.from, mark.span.to
+            mark.span.start, mark.span.end
         ),
         (None, _) => format!("<p>Node {node} of the packed contract{label}</p>"),
     }

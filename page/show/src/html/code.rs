@@ -51,14 +51,14 @@ impl Marked<'_> {
 pub fn section(view: &View) -> String {
     match (&view.source, view.subject.text()) {
         (Some(source), _) => with_source(view, source),
-        (None, Text::NotGiven | Text::NotHeld { .. }) if view.count() == 0 => String::new(),
+        (None, Text::NotGiven | Text::NotHeld(_)) if view.count() == 0 => String::new(),
         (None, _) => without_source(view),
     }
 }
 
 fn without_source(view: &View) -> String {
     let why = match view.subject.text() {
-        Text::Other { .. } => {
+        Text::Other(..) => {
             "The text that was given is not the one that this contract was packed from.".into()
         }
         _ => notice::not_shown(view.subject)

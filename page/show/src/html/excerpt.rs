@@ -52,9 +52,9 @@ mod tests {
     use super::*;
     use isonkaypu::Span;
 
-    fn shown(source: &str, from: u32, to: u32) -> String {
+    fn shown(source: &str, start: u32, end: u32) -> String {
         let source = Source::of(source.as_bytes());
-        let region = Region::of(Some(&source), Span { from, to }).expect("it lies inside");
+        let region = Region::of(Some(&source), Span { start, end }).expect("it lies inside");
         let html = excerpt(&source, &region, "here");
         html.replace("<code class=\"excerpt\">", "")
             .replace("</code>", "")

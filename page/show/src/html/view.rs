@@ -79,7 +79,7 @@ fn groups(report: &Report, source: Option<&Source>) -> Vec<Group> {
 
 fn group(entry: Option<usize>, fault: &Fault, tree: Option<&Tree>, source: Option<&Source>) -> Group {
     let node = tree.zip(entry).and_then(|(tree, entry)| tree.nodes.get(entry));
-    let place = node.and_then(|node| Region::of(source, Span { from: node.from, to: node.to }));
+    let place = node.and_then(|node| Region::of(source, Span { start: node.from, end: node.to }));
     Group { entry, name: fault.entry.clone(), place, items: Vec::new() }
 }
 

@@ -6,6 +6,7 @@ use crate::json::value::{Value, list, object};
 use crate::region::Region;
 use crate::{Mark, Source, Subject, escape};
 use form::Tree;
+use isonkaypu::Span;
 
 /// What places are made from.
 pub struct Places<'a> {
@@ -22,9 +23,10 @@ impl<'a> Places<'a> {
         Places { uri: escape::uri(subject.label()), artifact, source: source(subject), tree }
     }
 
-    /// The file as a whole.
-    pub fn whole(&self) -> Value {
-        object([("physicalLocation", self.physical(None))])
+    /// The file: the place in it, where the source is at hand and has it, else as a whole.
+    pub fn whole(&self, span: Option<Span>) -> Value {
+        let region = span.and_then(|span| Region::of(self.source.as_ref(), span));
+        object([("physicalLocation", self.physical(region.as_ref()))])
     }
 
     /// A related place: as a location, with its number in the result and what it is.
@@ -68,7 +70,7 @@ fn name_of(tree: &Tree, node: usize) -> String {
 
 /// The numbers as the image has them.
 fn numbers(mark: &Mark) -> Value {
-    object([("node", mark.node.into()), ("from", mark.span.from.into()), ("to", mark.span.to.into())])
+    object([("node", mark.node.into()), ("from", mark.span.start.into()), ("to", mark.span.end.into())])
 }
 
 fn of_region(region: &Region) -> Value {

@@ -3,8 +3,9 @@
 
 use super::rules::{DOUBT, DOUBT_ID, OTHER_TEXT, OTHER_TEXT_ID, described, message, refusal_id, refusals};
 use crate::json::value::{Value, list, object};
+use crate::unread::Unread;
 use crate::{Outcome, Subject, about, looks, notice};
-use isonkaypu::Doubt;
+use isonkaypu::{Doubt, Span};
 
 /// The notification that says what was not checked.
 const NOT_CHECKED_ID: &str = "not-checked";
@@ -32,6 +33,8 @@ pub fn all() -> Value {
 pub struct Trouble {
     pub id: String,
     pub says: String,
+    /// Where in the source, where it has a place.
+    pub span: Option<Span>,
 }
 
 /// Every notification on a subject.
@@ -43,29 +46,33 @@ pub fn notifications(subject: &Subject) -> Vec<Value> {
 
 /// Why the image could not be read, why the answers are in doubt, that the text is another one.
 pub fn troubles(subject: &Subject) -> Vec<Trouble> {
-    let other =
-        notice::other_text(subject).map(|other| Trouble { id: OTHER_TEXT_ID.to_string(), says: other.says });
-    let of_the_image = match subject.outcome() {
+    let other = notice::other_text(subject).map(|other| Trouble {
+        id: OTHER_TEXT_ID.to_string(),
+        says: other.says,
+        span: None,
+    });
+    let of_the_image: Vec<Trouble> = match subject.outcome() {
         Outcome::Checked(report) => report.doubts().iter().map(doubted).collect(),
-        Outcome::NoImage { refusal, .. } => vec![refused(subject, refusal.number().into())],
-        Outcome::NotPacked(error) => vec![refused(subject, error.number().into())],
+        _ => Unread::of(subject).iter().map(|unread| refused(subject, unread)).collect(),
     };
     of_the_image.into_iter().chain(other).collect()
 }
 
 fn doubted(doubt: &Doubt) -> Trouble {
-    Trouble { id: DOUBT_ID.to_string(), says: format!("{}: {doubt}.", about::capital(DOUBT)) }
+    Trouble { id: DOUBT_ID.to_string(), says: format!("{}: {doubt}.", about::capital(DOUBT)), span: None }
 }
 
-fn refused(subject: &Subject, number: u16) -> Trouble {
-    let title = words::refusal(number).map_or("it is no image", |words| &words.title);
+/// What document 01 has no number for, an image that does not say what the contract says, is a doubt.
+fn refused(subject: &Subject, unread: &Unread) -> Trouble {
+    let Unread { number, sentence, span, .. } = unread;
+    let numbered = number.map_or(String::new(), |number| format!(" (image {number})"));
     let hint = match looks::text_for_image(subject) {
         true => format!(" {}.", about::capital(looks::TEXT_FOR_IMAGE)),
         false => String::new(),
     };
     let says =
-        format!("The contract could not be read, and nothing was checked: {title} (image {number}).{hint}");
-    Trouble { id: refusal_id(number), says }
+        format!("The contract could not be read, and nothing was checked: {sentence}{numbered}.{hint}");
+    Trouble { id: number.map_or(DOUBT_ID.to_string(), refusal_id), says, span: *span }
 }
 
 /// The notification that keeps a reader from taking more for checked than was.

@@ -5,7 +5,7 @@
 use chance::Chance;
 use form::image::{HEADER, NODE};
 use form::{Tree, kind};
-use isonkaypu::check_image;
+use isonkaypu::{Limit, PackError, Span, check_image};
 use show::Subject;
 use std::path::Path;
 
@@ -18,6 +18,13 @@ pub mod tags;
 pub fn sample(name: &str) -> Vec<u8> {
     let path = Path::new(env!("CARGO_MANIFEST_DIR")).join("../../samples").join(name);
     std::fs::read(&path).unwrap_or_else(|error| panic!("{}: {error}", path.display()))
+}
+
+/// What people are shown of the library: the first 12 of 64 hexadecimal digits.
+pub fn library_digits() -> &'static str {
+    let whole = isonkaypu::library();
+    assert!(whole.len() == 64 && whole.bytes().all(|byte| byte.is_ascii_hexdigit()), "{whole}");
+    &whole[..12]
 }
 
 /// The source of the ward's contract, with its faults.
@@ -67,6 +74,42 @@ pub fn shown_with(
         Some((name, source)) => subject.with_source(name, source),
         None => subject,
     })
+}
+
+/// Everything that can keep a contract from being packed.
+pub const LIMITS: [Limit; 9] = [
+    Limit::Nodes,
+    Limit::Ancestors,
+    Limit::NameLength,
+    Limit::NameForm,
+    Limit::OtherForm,
+    Limit::Names,
+    Limit::Text,
+    Limit::Refused(8),
+    Limit::Unlike,
+];
+
+/// The text of a contract with a name that no image can have.
+pub const UMLAUT: &str = "contract Ward {\n    state { ausgabe_für: u64; }\n}\n";
+
+/// Shows a contract that could not be packed, since a limit is passed there.
+pub fn not_packed(
+    form: fn(&Subject) -> String,
+    limit: Limit,
+    at: (u32, u32),
+    source: Option<&[u8]>,
+) -> String {
+    let subject = Subject::not_packed("ward.quanta", PackError::new(limit, Span { start: at.0, end: at.1 }));
+    form(&match source {
+        Some(source) => subject.with_source("ward.quanta", source),
+        None => subject,
+    })
+}
+
+/// The same at the name that has an umlaut, with the text at hand.
+pub fn umlaut(form: fn(&Subject) -> String, limit: Limit) -> String {
+    let start = UMLAUT.find("ausgabe").expect("it is there") as u32;
+    not_packed(form, limit, (start, start + 12), Some(UMLAUT.as_bytes()))
 }
 
 /// Shows a source that the example reader can read, with itself at hand.

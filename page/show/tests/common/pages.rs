@@ -68,6 +68,7 @@ pub fn pages() -> Vec<Page> {
             0,
             shown(html, "ward.image", &sample("ward.image")[..2000], None),
         ),
+        page("not-packed", "Could not be read", 0, super::umlaut(html, isonkaypu::Limit::NameForm)),
         page("no-source", "Refused: 3 faults", 3, shown(html, "ward.image", &sample("ward.image"), None)),
         page("hostile", "Refused: 3 faults", 3, hostile(html)),
         page("many", "Refused: 18 faults", 18, shown_source(html, MANY)),

@@ -21,9 +21,9 @@ fn hold(image: &[u8]) {
         (Err(refusal), Err(number)) => return assert_eq!(refusal.number(), number),
         (Ok(report), Ok(judged)) => {
             assert_eq!(records(&report), judged.list());
-            for (pass, same) in Pass::ALL.into_iter().zip(reference::Pass::ALL) {
+            for (pass, same) in Pass::ALL.iter().copied().zip(reference::Pass::ALL) {
                 let (said, read) = (report.verdict(pass), judged.verdict(same));
-                let words = (said.code, said.place.node, said.place.span.from, said.place.span.to);
+                let words = (said.code, said.place.node, said.place.span.start, said.place.span.end);
                 assert_eq!(words, (read.code, usize::from(read.place), read.from, read.to));
             }
             report
@@ -36,7 +36,7 @@ fn hold(image: &[u8]) {
     let tree = report.tree().expect("admitted");
     for offence in report.offences() {
         let node = tree.nodes[offence.place.node];
-        assert_eq!((offence.place.span.from, offence.place.span.to), (node.from, node.to));
+        assert_eq!((offence.place.span.start, offence.place.span.end), (node.from, node.to));
     }
 }
 

@@ -1,0 +1,2 @@
+-- `Patterns` has the worked contracts with what each is answered.
+pub mod Patterns
