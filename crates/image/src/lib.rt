@@ -1,18 +1,13 @@
-// The image of document 01: what its bytes hold, how they are read, and admission by number.
-// This file has the image's type with its maxima, the header, the fields of a node, and the
-// refusals in their order. table.rt has the table of children, names.rt the names
-// (refusal 5), nodes.rt the nodes (refusals 6 to 8).
-mod names;
-mod nodes;
-mod table;
-
+// The image of document 01: what its bytes hold, and how they are read: the image's type with its maxima, the header
+// (refusals 1 to 4), the fields of a node, the offsets and the order of names. `admission` has the other refusals, over
+// `children` (the table of children), `name_table` (the names) and `steps` (one step of the walk over the nodes).
 ghost use mathlib.Core.Path.{_≡_};
 ghost use Prim.Native.Nat.{_+_, _*_, _<_, _≤_};
 ghost use lib.ListN.{length};
 ghost use Rattle.image.specs.Maxima.{maxNodes, maxNames};
 ghost use Rattle.image.specs.Node.{half, fullWord, kindOf, nameOf, endOf, fromOf, toOf};
 ghost use Rattle.image.specs.Text.{less, offOf};
-ghost use Rattle.image.specs.Admit.{namesAt, textAt, layoutOk, headerRefusal, bodyRefusal, refusal, admissionOf};
+ghost use Rattle.image.specs.Admit.{namesAt, textAt, layoutOk, headerRefusal, admissionOf};
 
 // An image whose header is in order: its counts.
 pub struct Image {
@@ -118,7 +113,8 @@ fn layout_ok(s: &[u8], image: Image) -> bool
     text <= s.len()
 }
 
-fn wide(b: u8) -> usize
+// A byte as a usize.
+pub fn wide(b: u8) -> usize
     ensures { λ r. ⌜ (r ≡ b) × (r < 256) ⌝ }
 {
     b as usize
@@ -135,7 +131,7 @@ pub fn half_at(s: &[u8], k: usize) -> usize
 }
 
 // The u32 at byte k.
-fn word_at(s: &[u8], k: usize) -> usize
+pub fn word_at(s: &[u8], k: usize) -> usize
     requires { ⌜ k + 3 < length (now s) ⌝ }
     ensures { λ r. ⌜ (r ≡ fullWord (now (s .entry)) k) × (r < 4294967296) ⌝ }
 {
@@ -201,43 +197,4 @@ pub fn below(t: &[u8], u: &[u8]) -> bool
         k += 1;
     }
     false
-}
-
-// Refusals 5 to 8 of the three parts of an image, or 0. Each is settled for the whole image before the next is looked at.
-fn judge(nodes: &[u8], names: &[u8], text: &[u8], n: usize, m: usize) -> usize
-    requires { ⌜ (1 ≤ n) × (n ≤ maxNodes) × (16 * n ≤ length (now nodes)) × (2 * m + 2 ≤ length (now names)) × (m ≤ maxNames) ⌝ }
-    ensures { λ r. ⌜ r ≡ bodyRefusal (now (nodes .entry)) (now (names .entry)) (now (text .entry)) n m ⌝ }
-{
-    if !names::names_ok(names, text, m) {
-        return 5;
-    }
-    let mut marks = [false; Image::NAMES + 1];
-    let r = nodes::tree(nodes, names, text, n, m, &mut marks);
-    if r != 0 {
-        return r;
-    }
-    if !nodes::used_ok(&marks, m) {
-        return 8;
-    }
-    0
-}
-
-// Every byte slice is admitted, or refused by number.
-pub fn admit(s: &[u8]) -> Admission
-    ensures { λ r. ⌜ r ≡ admissionOf (refusal (now (s .entry))) (now (s .entry)) ⌝ }
-{
-    match Image::read(s) {
-        Admission::Refused(r) => Admission::Refused(r),
-        Admission::Admitted(image) => {
-            let n = image.nodes;
-            let m = image.names;
-            let a = image.names_at();
-            let b = image.text_at();
-            let r = judge(&s[Image::HEADER..a], &s[a..b], &s[b..], n, m);
-            if r != 0 {
-                return Admission::Refused(r);
-            }
-            Admission::Admitted(image)
-        }
-    }
 }

@@ -267,7 +267,7 @@ fn refused(number: usize) -> Table
 pub fn table_of(image: &[u8]) -> Table
     ensures { λ r. ⌜ TableOf (old image) r ⌝ }
 {
-    match image::admit(image) {
+    match admission::admit(image) {
         Admission::Refused(number) => refused(number),
         Admission::Admitted(head) => tracked(image, head),
     }

@@ -114,7 +114,7 @@ pub fn render(image: &[u8], out: &mut [u8]) -> usize
     ensures { λ r. ⌜ Printed (old out) 0 (reportText (old image)) (new out) r ⌝ }
     ensures { λ r. ⌜ r ≤ 450000 ⌝ }
 {
-    match image::admit(image) {
+    match admission::admit(image) {
         Admission::Refused(r) => {
             let k = lines::text(b"image", out, 0);
             lines::rest_one(r, out, k)

@@ -53,7 +53,7 @@ pub enum Listed {
 pub fn refused(image: &[u8]) -> usize
     ensures { λ r. ⌜ r ≡ refusal (old image) ⌝ }
 {
-    match image::admit(image) {
+    match admission::admit(image) {
         Admission::Refused(r) => r,
         Admission::Admitted(_head) => 0,
     }
@@ -147,7 +147,7 @@ fn first_of(pass: Pass, image: &[u8], head: Image) -> Verdict
 fn verdict_of(pass: Pass, image: &[u8]) -> Verdict
     ensures { λ r. ⌜ Judged (recordsOf pass) (old image) r ⌝ }
 {
-    match image::admit(image) {
+    match admission::admit(image) {
         Admission::Refused(r) => Verdict::Image(r),
         Admission::Admitted(head) => first_of(pass, image, head),
     }
@@ -204,7 +204,7 @@ fn answer_all(image: &[u8], head: Image) -> Answers
 pub fn verdicts(image: &[u8]) -> Answers
     ensures { λ r. ⌜ Judged resolve (old image) (r .resolve) × Judged access (old image) (r .access) × Judged linear (old image) (r .linear) ⌝ }
 {
-    match image::admit(image) {
+    match admission::admit(image) {
         Admission::Refused(r) => Answers {
             resolve: Verdict::Image(r),
             access: Verdict::Image(r),
@@ -259,7 +259,7 @@ fn fill(image: &[u8], head: Image, words: &mut [u16]) -> usize
 pub fn list(image: &[u8], words: &mut [u16]) -> Listed
     ensures { λ r. ⌜ ListedAll (old image) (old words) r (new words) ⌝ }
 {
-    match image::admit(image) {
+    match admission::admit(image) {
         Admission::Refused(r) => Listed::Refused(r),
         Admission::Admitted(head) => {
             let size = words.len();
@@ -277,7 +277,7 @@ pub fn list(image: &[u8], words: &mut [u16]) -> Listed
 fn part_of(pass: Pass, image: &[u8], words: &mut [u16]) -> Listed
     ensures { λ r. ⌜ ListedPart (recordsOf pass) (old image) (old words) r (new words) ⌝ }
 {
-    match image::admit(image) {
+    match admission::admit(image) {
         Admission::Refused(r) => Listed::Refused(r),
         Admission::Admitted(head) => Listed::Records(list_of(pass, image, head, words)),
     }
@@ -313,7 +313,7 @@ fn yes_no(yes: bool) -> Reply
 fn reply_of(question: Question, image: &[u8], name: &[u8]) -> Reply
     ensures { λ r. ⌜ Replied (questionOf question) (old image) (old name) r ⌝ }
 {
-    match image::admit(image) {
+    match admission::admit(image) {
         Admission::Refused(r) => Reply::Image(r),
         Admission::Admitted(head) => yes_no(model::holds(question, image, head, name)),
     }
