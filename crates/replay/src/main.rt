@@ -1,16 +1,24 @@
 // Replays recorded/answers.bin through the public face and prints what differs. Its layout is in recorded/README.md.
+mod ask;
 mod lists;
-mod read;
-mod tell;
 
-use tell::Case;
-use tell::Numbers;
+use recording::Case;
+use recording::Numbers;
+use typeck::Reply;
+use typeck::Verdict;
 ghost use mathlib.Core.Path.{_≡_};
 ghost use Prim.Native.Nat.{_+_, _<_, _≤_};
 ghost use lib.ListN.{length};
 
 // More than the recorded answers have: input that fills it is too long.
 const ROOM: usize = 450000;
+
+// Zeros for what is read.
+fn room_for_all() -> [u8; ROOM]
+    ensures { λ r. ⌜ 450000 ≡ length r ⌝ }
+{
+    [0; ROOM]
+}
 
 // Where the reading goes on and how many differences were told; or, not whole, the answers end too early.
 struct Step {
@@ -39,25 +47,25 @@ fn step_to(at: usize, differ: usize) -> Step
     }
 }
 
+// A verdict of the face against the recorded one.
+fn pass_differs(case: Case, asked: &[u8], file: &[u8], at: usize, verdict: Verdict) -> usize
+    requires { ⌜ at + 12 ≤ length (now file) ⌝ }
+    ensures { λ r. ⌜ r ≤ 1 ⌝ }
+{
+    recording::verdict_differs(case, asked, file, at, ask::of_verdict(verdict))
+}
+
 // The refusal, and each pass asked by itself.
 fn passes_differ(case: Case, file: &[u8], at: usize, image: &[u8]) -> usize
     requires { ⌜ at + 36 ≤ length (now file) ⌝ }
     ensures { λ r. ⌜ r ≤ 4 ⌝ }
 {
-    let number = case.number;
-    let refusal = case.refusal;
-    let resolve = read::verdict_at(file, at, refusal);
-    let access = read::verdict_at(file, at + 12, refusal);
-    let linear = read::verdict_at(file, at + 24, refusal);
-    let recorded = Numbers(refusal, 0, 0, 0, 0);
-    let answer = Numbers(typeck::refused(image), 0, 0, 0, 0);
-    let first = read::of_verdict(typeck::resolve(image));
-    let second = read::of_verdict(typeck::access(image));
-    let third = read::of_verdict(typeck::linear(image));
-    let a = tell::differs(number, b"refused", recorded, answer);
-    let b = tell::differs(number, b"resolve", resolve, first);
-    let c = tell::differs(number, b"access", access, second);
-    let d = tell::differs(number, b"linear", linear, third);
+    let recorded = Numbers(case.refusal, 0, 0, 0, 0);
+    let refused = Numbers(typeck::refused(image), 0, 0, 0, 0);
+    let a = recording::differs(case, b"refused", recorded, refused);
+    let b = pass_differs(case, b"resolve", file, at, typeck::resolve(image));
+    let c = pass_differs(case, b"access", file, at + 12, typeck::access(image));
+    let d = pass_differs(case, b"linear", file, at + 24, typeck::linear(image));
     a + b + c + d
 }
 
@@ -66,28 +74,13 @@ fn verdicts_differ(case: Case, file: &[u8], at: usize, image: &[u8]) -> usize
     requires { ⌜ at + 36 ≤ length (now file) ⌝ }
     ensures { λ r. ⌜ r ≤ 3 ⌝ }
 {
-    let number = case.number;
-    let refusal = case.refusal;
-    let resolve = read::verdict_at(file, at, refusal);
-    let access = read::verdict_at(file, at + 12, refusal);
-    let linear = read::verdict_at(file, at + 24, refusal);
     let answers = typeck::verdicts(image);
-    let first = answers.resolve;
-    let second = answers.access;
-    let third = answers.linear;
-    let a = tell::differs(
-        number,
-        b"verdicts, resolve",
-        resolve,
-        read::of_verdict(first),
-    );
-    let b = tell::differs(
-        number,
-        b"verdicts, access",
-        access,
-        read::of_verdict(second),
-    );
-    let c = tell::differs(number, b"verdicts, linear", linear, read::of_verdict(third));
+    let resolve = answers.resolve;
+    let access = answers.access;
+    let linear = answers.linear;
+    let a = pass_differs(case, b"verdicts, resolve", file, at, resolve);
+    let b = pass_differs(case, b"verdicts, access", file, at + 12, access);
+    let c = pass_differs(case, b"verdicts, linear", file, at + 24, linear);
     a + b + c
 }
 
@@ -96,9 +89,16 @@ fn lent_differs(case: Case, file: &[u8], at: usize, image: &[u8]) -> usize
     requires { ⌜ at + 36 ≤ length (now file) ⌝ }
     ensures { λ r. ⌜ r ≤ 1 ⌝ }
 {
-    let recorded = read::verdict_at(file, at + 24, case.refusal);
-    let answer = read::of_verdict(linear_lent::linear_here(image));
-    tell::differs(case.number, b"linear, rows lent", recorded, answer)
+    let verdict = linear_lent::linear_here(image);
+    pass_differs(case, b"linear, rows lent", file, at + 24, verdict)
+}
+
+// An answer of the face about a name against the recorded one.
+fn reply_differs(case: Case, asked: &[u8], file: &[u8], at: usize, reply: Reply) -> usize
+    requires { ⌜ at < length (now file) ⌝ }
+    ensures { λ r. ⌜ r ≤ 1 ⌝ }
+{
+    recording::answer_differs(case, asked, file, at, ask::of_reply(reply))
 }
 
 // The three questions about one name.
@@ -106,17 +106,12 @@ fn questions_differ(case: Case, file: &[u8], at: usize, image: &[u8], name: &[u8
     requires { ⌜ at + 3 ≤ length (now file) ⌝ }
     ensures { λ r. ⌜ r ≤ 3 ⌝ }
 {
-    let number = case.number;
-    let refusal = case.refusal;
-    let state = Numbers(refusal, read::u8_at(file, at), 0, 0, 0);
-    let declared = Numbers(refusal, read::u8_at(file, at + 1), 0, 0, 0);
-    let known = Numbers(refusal, read::u8_at(file, at + 2), 0, 0, 0);
-    let first = read::of_reply(typeck::is_state(image, name));
-    let second = read::of_reply(typeck::is_declared_asset(image, name));
-    let third = read::of_reply(typeck::is_known_asset(image, name));
-    let a = tell::differs(number, b"is_state", state, first);
-    let b = tell::differs(number, b"is_declared_asset", declared, second);
-    let c = tell::differs(number, b"is_known_asset", known, third);
+    let state = typeck::is_state(image, name);
+    let declared = typeck::is_declared_asset(image, name);
+    let known = typeck::is_known_asset(image, name);
+    let a = reply_differs(case, b"is_state", file, at, state);
+    let b = reply_differs(case, b"is_declared_asset", file, at + 1, declared);
+    let c = reply_differs(case, b"is_known_asset", file, at + 2, known);
     a + b + c
 }
 
@@ -129,7 +124,7 @@ fn name_step(case: Case, file: &[u8], at: usize, image: &[u8]) -> Step
     if n - at < 1 {
         return early();
     }
-    let size = read::u8_at(file, at);
+    let size = recording::u8_at(file, at);
     let from = at + 1;
     if n - from < size + 3 {
         return early();
@@ -164,9 +159,9 @@ fn answers_step(file: &[u8], at: usize, number: usize, image: &[u8]) -> Step
     requires { ⌜ (at + 41 ≤ length (now file)) × (length (now file) ≤ 450000) ⌝ }
     ensures { λ r. ⌜ (r .at ≤ length (now (file .entry))) × (r .differ ≤ 1000) ⌝ }
 {
-    let refusal = read::u8_at(file, at);
+    let refusal = recording::u8_at(file, at);
     let case = Case { number, refusal };
-    let count = read::u32_at(file, at + 37);
+    let count = recording::u32_at(file, at + 37);
     let list = at + 41;
     if file.len() - list < 6 * count + 1 {
         return early();
@@ -176,7 +171,7 @@ fn answers_step(file: &[u8], at: usize, number: usize, image: &[u8]) -> Step
     let b = verdicts_differ(case, file, at + 1, image);
     let c = lists::differ(case, file, list, count, image);
     let d = lent_differs(case, file, at + 1, image);
-    let step = names_step(case, file, names + 1, read::u8_at(file, names), image);
+    let step = names_step(case, file, names + 1, recording::u8_at(file, names), image);
     Step {
         at: step.at,
         differ: a + b + c + d + step.differ,
@@ -193,7 +188,7 @@ fn image_step(file: &[u8], at: usize, number: usize) -> Step
     if n - at < 4 {
         return early();
     }
-    let size = read::u32_at(file, at);
+    let size = recording::u32_at(file, at);
     let from = at + 4;
     if n - from < size + 41 {
         return early();
@@ -225,30 +220,27 @@ fn images_step(file: &[u8], count: usize) -> Step
 fn replay(file: &[u8]) {
     let n = file.len();
     if ROOM <= n {
-        tell::text(b"recorded answers are too long\n");
+        recording::text(b"recorded answers are too long\n");
         return;
     }
     if n < 4 {
-        tell::text(b"recorded answers end early\n");
+        recording::text(b"recorded answers end early\n");
         return;
     }
-    let count = read::u32_at(file, 0);
+    let count = recording::u32_at(file, 0);
     let step = images_step(file, count);
     if !step.whole {
-        tell::text(b"recorded answers end early\n");
+        recording::text(b"recorded answers end early\n");
         return;
     }
     if step.at < n {
-        tell::text(b"recorded answers go on after the last image\n");
+        recording::text(b"recorded answers go on after the last image\n");
     }
-    tell::number(count);
-    tell::text(b" images, ");
-    tell::number(step.differ);
-    tell::text(b" differ\n");
+    recording::summary(count, step.differ);
 }
 
 fn main() {
-    let mut room = [0u8; ROOM];
+    let mut room = room_for_all();
     let n = io::read_full(0, &mut room);
     // At the end of the input one more read gives nothing; where a read failed, it fails again.
     let mut more = [0u8; 1];

@@ -1,8 +1,5 @@
-// Numbers of the recorded answers, little-endian, and the answers of the public face as the same numbers.
+// Numbers of the recorded answers, little-endian.
 use crate::tell::Numbers;
-use typeck::Listed;
-use typeck::Reply;
-use typeck::Verdict;
 ghost use mathlib.Core.Path.{_≡_};
 ghost use Prim.Native.Nat.{_+_, _<_, _≤_};
 ghost use lib.ListN.{length, getD};
@@ -21,7 +18,7 @@ pub fn wide_u16(w: u16) -> usize
     w as usize
 }
 
-fn wide_u32(w: u32) -> usize
+pub fn wide_u32(w: u32) -> usize
     ensures { λ r. ⌜ r ≡ w ⌝ }
 {
     w as usize
@@ -57,38 +54,4 @@ pub fn verdict_at(s: &[u8], at: usize, refusal: usize) -> Numbers
     let from = u32_at(s, at + 4);
     let to = u32_at(s, at + 8);
     Numbers(refusal, code, place, from, to)
-}
-
-pub fn of_verdict(verdict: Verdict) -> Numbers {
-    match verdict {
-        Verdict::Image(refusal) => Numbers(refusal, 0, 0, 0, 0),
-        Verdict::Accepted => Numbers(0, 0, 0, 0, 0),
-        Verdict::Refused {
-            code,
-            place,
-            from,
-            to,
-        } => Numbers(
-            0,
-            wide_u16(code),
-            wide_u16(place),
-            wide_u32(from),
-            wide_u32(to),
-        ),
-    }
-}
-
-pub fn of_reply(reply: Reply) -> Numbers {
-    match reply {
-        Reply::Image(refusal) => Numbers(refusal, 0, 0, 0, 0),
-        Reply::Yes => Numbers(0, 1, 0, 0, 0),
-        Reply::No => Numbers(0, 0, 0, 0, 0),
-    }
-}
-
-pub fn of_listed(listed: Listed) -> Numbers {
-    match listed {
-        Listed::Refused(refusal) => Numbers(refusal, 0, 0, 0, 0),
-        Listed::Records(count) => Numbers(0, count, 0, 0, 0),
-    }
 }

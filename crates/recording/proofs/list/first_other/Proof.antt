@@ -1,8 +1,8 @@
 -- `first_other` is safe and ends: each record that it compares is one of `count`.
 use borrow.Author.Needs.{needs}
 use Prim.Native.Nat.{_-_, _≤_}
-use Rattle.replay.proofs.lists.first_other.Statement.{statement}
-use Rattle.replay.proofs.lists.first_other.Tie as tie
+use Rattle.recording.proofs.list.first_other.Statement.{statement}
+use Rattle.recording.proofs.list.first_other.Tie as tie
 
 abbrev Inv-loop : tie.InvT-loop
 Inv-loop file at words count i₀ i = i ≤ count

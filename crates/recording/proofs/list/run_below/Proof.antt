@@ -1,8 +1,8 @@
 -- `run_below` is safe and ends: each record that it reads is one of `count`.
 use borrow.Author.Needs.{needs}
 use Prim.Native.Nat.{_-_, _≤_}
-use Rattle.replay.proofs.lists.run_below.Statement.{statement}
-use Rattle.replay.proofs.lists.run_below.Tie as tie
+use Rattle.recording.proofs.list.run_below.Statement.{statement}
+use Rattle.recording.proofs.list.run_below.Tie as tie
 
 abbrev Inv-loop : tie.InvT-loop
 Inv-loop file at count code i₀ i = i ≤ count
