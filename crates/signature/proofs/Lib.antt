@@ -7,8 +7,5 @@ pub mod Nodes
 pub mod Written
 pub mod Read
 pub mod Pairs
-pub mod Turns
 pub mod Same
-pub mod Keys
-pub mod Chain
 pub mod Sought

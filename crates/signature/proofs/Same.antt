@@ -7,7 +7,7 @@ use mathlib.Core.List.{List}
 use Rattle.image.specs.Pick.{pick, both}
 use Rattle.image.specs.Admit.{refusal, nodeCount}
 use Rattle.rules.specs.Sweep.{same}
-use Rattle.rules.specs.Tree.{tree}
+use Rattle.rules.specs.Tree.{Tree, tree}
 use Rattle.rules.specs.Resolve.{signature}
 use Rattle.rules.proofs.Reflect.{tells-same}
 use Rattle.signature.proofs.Types.{tree-past, entry-name, param-type}
@@ -15,7 +15,24 @@ use Rattle.image.proofs.Given.{given}
 use Rattle.signature.specs.Alike.{sameType, signedAs}
 use Rattle.signature.specs.Keys.{isParam, sameParams, sameNodes}
 use Rattle.signature.proofs.Pairs.{Pairing, names-other, pairs-start, pairs-end, pairs-long, pairs-short, pairs-differ, pairs-on}
-use Rattle.signature.proofs.Turns.{yes-param, no-param}
+use borrow.Author.Tests.{eq-eqb, lt-ltb, eqb-true, ltb-true}
+use lib.Dec.{eqb, ltb}
+use Rattle.image.proofs.Every.{both-left, both-right}
+use Rattle.nodes.proofs.Fall.{not-so}
+
+-- whether a parameter of the entry x stands at p
+module _ (t : Tree) (x p : ℕ) where
+  pub yes-param : isParam t x p ≡ true → (p < t .end x) × (t .kind p ≡ 10)
+  yes-param b = (ltb-true p (t .end x) (both-left (ltb p (t .end x)) (eqb (t .kind p) 10) b), eqb-true (t .kind p) 10 (both-right (ltb p (t .end x)) (eqb (t .kind p) 10) b))
+
+  pub param-true : p < t .end x → t .kind p ≡ 10 → isParam t x p ≡ true
+  param-true l k = rw (lt-ltb p (t .end x) l, eq-eqb (t .kind p) 10 k) refl
+
+  pub no-param : isParam t x p ≡ false → p < t .end x → t .kind p ≡ 10 → ⊥
+  no-param b l k = true≢false (sym (param-true l k) ∙ b)
+
+  pub param-false : (p < t .end x → t .kind p ≡ 10 → ⊥) → isParam t x p ≡ false
+  param-false n = not-so (isParam t x p) (λ b. let y = yes-param b in n (y .0) (y .1))
 
 module _ (s : List ℕ) (adm : refusal s ≡ 0) (g e : ℕ) (hg : g < nodeCount s) (he : e < nodeCount s) (kg : tree s .kind g ≡ 9) (ke : tree s .kind e ≡ 9) where
   abbrev More : ℕ → ℕ → ℕ → Type 0

@@ -1,10 +1,7 @@
 // The signature text of an entry (23 of document 01), written into a lent buffer where there is room, and counted.
-// overloads.rt has code 23 itself, which writes no text: `same-text-same-nodes` in proofs/Same.antt says that comparing the texts is comparing the nodes.
-mod overloads;
-
+// Code 23 itself, resolve_overloads, writes no text: `same-text-same-nodes` in proofs/Same.antt says that comparing the texts is comparing the nodes.
 use nodes::Cursor;
 use nodes::TYPE;
-pub use overloads::group23;
 ghost use mathlib.Core.Path.{_≡_};
 ghost use mathlib.Core.List.{List, [], _∷_, _++_};
 ghost use Prim.Native.Nat.{ℕ, _+_, _*_, _-_, _≤_};

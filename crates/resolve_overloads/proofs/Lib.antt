@@ -1,0 +1,4 @@
+pub mod Turns
+pub mod Keys
+pub mod Chain
+pub mod Sought
