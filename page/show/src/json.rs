@@ -28,6 +28,7 @@ pub fn json(subject: &Subject) -> String {
         ("offences", report.map(|report| offences(report, source.as_ref())).into()),
         ("complete", report.map(|report| report.doubts().is_empty()).into()),
         ("doubts", report.map(|report| list(report.doubts().iter().map(Doubt::to_string))).into()),
+        ("checked", list(about::checked(subject).iter().map(|(_, check)| check.word))),
         ("not_checked", list(about::not_checked(subject).iter().map(|gap| gap.word))),
     ])
     .to_file()

@@ -47,7 +47,7 @@ fn properties(subject: &Subject) -> Value {
         ("kit", isonkaypu::kit().into()),
         ("complete", is_complete(subject).into()),
         ("imageSha256", subject.image().map(sha256::hex).into()),
-        ("checked", list(about::checked(subject).iter().map(|check| check.word))),
+        ("checked", list(about::checked(subject).iter().map(|(_, check)| check.word))),
         ("notChecked", list(about::not_checked(subject).iter().map(|gap| gap.word))),
     ])
 }

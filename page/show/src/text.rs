@@ -36,7 +36,7 @@ fn checked(label: &str, report: &Report, source: Option<&Source>) -> String {
         text += &places(excerpts, width, source.is_some());
         text += &format!("  mend: {}\n\n", fault.mend);
     }
-    text + words::CHECKED + "\n"
+    text + &words::last_lines(faults.first().map(|fault| fault.code))
 }
 
 fn banner(label: &str, report: &Report, count: usize) -> String {

@@ -1,10 +1,12 @@
 //! What each code of a report and each refusal of an image means, in words for a pharmacist. They
 //! stand in one file, `words.txt`; help, `explain`, text, HTML and SARIF are made from it.
 
+mod find;
 mod help;
 mod read;
 
-pub use help::{explain, explain_list, explain_term, help_page};
+pub use find::find;
+pub use help::{explain, explain_claims, explain_list, explain_term, help_page, last_lines};
 pub use read::{Trouble, read};
 
 use std::sync::OnceLock;
@@ -43,7 +45,18 @@ pub struct Entry {
 #[derive(Clone, Debug, PartialEq, Eq)]
 pub struct Term {
     pub word: String,
+    /// Other words by which `explain` finds it.
+    pub also: Vec<String>,
     pub means: String,
+}
+
+/// Something that no rule looks at.
+#[derive(Clone, Debug, PartialEq, Eq)]
+pub struct Gap {
+    pub word: String,
+    pub means: String,
+    /// A contract that is wrong in this, and is accepted.
+    pub example: String,
 }
 
 /// Everything that the file says, in its order.
@@ -52,12 +65,14 @@ pub struct Words {
     pub glossary: Vec<Term>,
     pub lines: Vec<Term>,
     pub statuses: Vec<Term>,
+    pub checks: Vec<Term>,
+    pub gaps: Vec<Gap>,
     pub refusals: Vec<Entry>,
     pub codes: Vec<Entry>,
 }
 
-/// The last line of every report on a contract.
-pub const CHECKED: &str = "Checked: names, access, lots. NOT checked: supply (conserve), signed authority";
+/// What people call the three checks, in the order in which they run.
+pub const CHECKS: [&str; 3] = ["names", "access", "lots"];
 
 /// The codes of document 01, in the report's order.
 pub const CODES: &[u16] =
@@ -122,14 +137,19 @@ pub fn glossary() -> &'static [Term] {
     &words().glossary
 }
 
-/// The explanation of a word.
-pub fn term(word: &str) -> Option<&'static Term> {
-    glossary().iter().find(|t| t.word == word)
-}
-
 /// The lines of a report.
 pub fn lines() -> &'static [Term] {
     &words().lines
+}
+
+/// What each check looks at, in the order of `CHECKS`.
+pub fn checks() -> &'static [Term] {
+    &words().checks
+}
+
+/// What no check looks at.
+pub fn gaps() -> &'static [Gap] {
+    &words().gaps
 }
 
 /// The exit statuses of the programs.

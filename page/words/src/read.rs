@@ -1,7 +1,9 @@
 //! The reader of the file of words. It is strict: what it does not know, what is missing and what
 //! stands twice is trouble, with the line where it stands.
 
-use crate::{BLANKS, CODES, Entry, MAY_BE_BURNED, MAY_STAND_ALONE, REFUSALS, RELATED, Term, Words};
+use crate::{
+    BLANKS, CHECKS, CODES, Entry, Gap, MAY_BE_BURNED, MAY_STAND_ALONE, REFUSALS, RELATED, Term, Words,
+};
 use std::fmt;
 
 /// What is wrong with a file of words, and in which line.
@@ -45,20 +47,21 @@ pub fn read(text: &str) -> Result<Words, Trouble> {
     for section in &sections {
         add(&mut words, section)?;
     }
-    all_there(CODES, &words.codes, "code")?;
-    all_there(REFUSALS, &words.refusals, "image")?;
+    all_there(CODES, words.codes.iter().map(|e| e.number), "code")?;
+    all_there(REFUSALS, words.refusals.iter().map(|e| e.number), "image")?;
+    all_there(&CHECKS, words.checks.iter().map(|t| t.word.as_str()), "checked")?;
     Ok(words)
 }
 
-/// Each number has its entry, in the given order.
-fn all_there(numbers: &[u16], entries: &[Entry], kind: &str) -> Result<(), Trouble> {
-    let have: Vec<u16> = entries.iter().map(|e| e.number).collect();
-    match numbers
-        .iter()
-        .zip(have.iter().map(Some).chain(std::iter::repeat(None)))
-        .find(|(n, h)| Some(*n) != *h)
-    {
-        Some((number, _)) => trouble(0, format!("[{kind} {number}] is missing, or not in its place")),
+/// Each of them has its entry, in the given order.
+fn all_there<T: PartialEq + Copy + fmt::Display>(
+    all: &[T],
+    have: impl Iterator<Item = T>,
+    kind: &str,
+) -> Result<(), Trouble> {
+    let have = have.map(Some).chain(std::iter::repeat(None));
+    match all.iter().zip(have).find(|(one, have)| Some(**one) != *have) {
+        Some((one, _)) => trouble(0, format!("[{kind} {one}] is missing, or not in its place")),
         None => Ok(()),
     }
 }
@@ -113,6 +116,8 @@ fn add(words: &mut Words, section: &Section) -> Result<(), Trouble> {
         "term" => words.glossary.push(term(section, &words.glossary)?),
         "line" => words.lines.push(term(section, &words.lines)?),
         "status" => words.statuses.push(term(section, &words.statuses)?),
+        "checked" => words.checks.push(check(section, &words.checks)?),
+        "gap" => words.gaps.push(gap(section, &words.gaps)?),
         "image" => words.refusals.push(entry(section, REFUSALS, &words.refusals)?),
         "code" => words.codes.push(entry(section, CODES, &words.codes)?),
         other => return trouble(section.line, format!("`{other}` is no kind of entry")),
@@ -121,11 +126,33 @@ fn add(words: &mut Words, section: &Section) -> Result<(), Trouble> {
 }
 
 fn term(section: &Section, before: &[Term]) -> Result<Term, Trouble> {
-    if before.iter().any(|t| t.word == section.of) {
+    let also = find(section, "also")?.map(value).unwrap_or_default();
+    let also: Vec<String> = also.split(',').map(|w| w.trim().to_string()).filter(|w| !w.is_empty()).collect();
+    let has = |term: &Term, word: &str| term.word == word || term.also.iter().any(|w| w == word);
+    let words = std::iter::once(section.of).chain(also.iter().map(String::as_str));
+    for word in words {
+        if before.iter().any(|t| has(t, word)) {
+            return trouble(section.line, format!("`{word}` stands twice"));
+        }
+    }
+    only(section, &["also", "means"])?;
+    Ok(Term { word: section.of.to_string(), also, means: needed(section, "means")? })
+}
+
+fn check(section: &Section, before: &[Term]) -> Result<Term, Trouble> {
+    if !CHECKS.contains(&section.of) {
+        return trouble(section.line, format!("`{}` is no check", section.of));
+    }
+    term(section, before)
+}
+
+fn gap(section: &Section, before: &[Gap]) -> Result<Gap, Trouble> {
+    if before.iter().any(|g| g.word == section.of) {
         return trouble(section.line, format!("`{}` stands twice", section.of));
     }
-    only(section, &["means"])?;
-    Ok(Term { word: section.of.to_string(), means: needed(section, "means")? })
+    only(section, &["means", "example"])?;
+    let [means, example] = [needed(section, "means")?, needed(section, "example")?];
+    Ok(Gap { word: section.of.to_string(), means, example })
 }
 
 /// The fields of a code. A refusal has no place, so it has none of `alone`, `here`, `there`, `kept`.
@@ -206,7 +233,7 @@ fn absent(section: &Section, name: &str) -> Result<String, Trouble> {
 fn value(field: &Field) -> String {
     let lines = field.text.iter().map(|l| l.trim_end());
     let text = match field.name {
-        "before" | "after" => lines.collect::<Vec<_>>().join("\n"),
+        "before" | "after" | "example" => lines.collect::<Vec<_>>().join("\n"),
         _ => lines
             .map(|l| if l.is_empty() { "\n" } else { l })
             .collect::<Vec<_>>()

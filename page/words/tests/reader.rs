@@ -16,8 +16,11 @@ fn the_shipped_file_is_whole() {
     for word in ["contract", "entry", "state", "lot", "genesis", "clause", "event", "invariant", "asset"] {
         assert!(words.glossary.iter().any(|t| t.word == word), "no `{word}` in the glossary");
     }
-    assert_eq!((words.lines.len(), words.statuses.len()), (8, 4));
-    assert_eq!(words.lines.last().map(|t| t.word.as_str()), Some(words::CHECKED));
+    assert_eq!((words.lines.len(), words.statuses.len()), (7, 4));
+    assert_eq!(words.checks.iter().map(|t| t.word.as_str()).collect::<Vec<_>>(), words::CHECKS);
+    for word in ["supply (conserve)", "signed authority", "amounts", "undeclared names", "undeclared types"] {
+        assert!(words.gaps.iter().any(|g| g.word == word), "no gap `{word}`");
+    }
 }
 
 #[test]
@@ -39,6 +42,23 @@ fn missing() {
     );
 }
 
+/// What is checked and what is not: each with its words, each gap with its example.
+#[test]
+fn claims() {
+    assert_eq!(trouble("[checked access]", "[checked acces]"), "`acces` is no check");
+    assert_eq!(trouble("[checked access]", "[checked names]"), "`names` stands twice");
+    let [from, to] = ["[checked access]", "[checked lots]"].map(|head| WORDS.find(head).expect("a head"));
+    let without = format!("{}{}", &WORDS[..from], &WORDS[to..]);
+    let missing = Err("[checked access] is missing, or not in its place".to_string());
+    assert_eq!(read(&without).map_err(|t| t.what), missing);
+    assert_eq!(trouble("[gap amounts]", "[gap signed authority]"), "`signed authority` stands twice");
+    assert_eq!(trouble("[gap amounts]", "[gap amounts]\nmends: x"), "`mends:` is no field of this entry");
+    let [from, to] = ["[gap amounts]", "[gap conditions]"].map(|head| WORDS.find(head).expect("a head"));
+    let without = format!("{}[gap amounts]\nmeans: amounts\n{}", &WORDS[..from], &WORDS[to..]);
+    let missing = Err("`example:` is missing in [gap amounts]".to_string());
+    assert_eq!(read(&without).map_err(|t| t.what), missing);
+}
+
 #[test]
 fn doubled() {
     let title = "title: a lot is never used\n";
@@ -46,6 +66,7 @@ fn doubled() {
     assert_eq!(trouble("[code 61]", "[code 60]"), "`code 60` stands twice");
     assert_eq!(trouble("[image 4]", "[image 3]"), "`image 3` stands twice");
     assert_eq!(trouble("[term state]", "[term contract]"), "`contract` stands twice");
+    assert_eq!(trouble("also: linear", "also: resolve"), "`resolve` stands twice");
 }
 
 #[test]
