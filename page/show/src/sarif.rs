@@ -88,7 +88,7 @@ fn results(subject: &Subject) -> Vec<Value> {
 
 fn result(fault: &Fault, places: &Places) -> Value {
     let message = format!("{}. Mend: {}.", about::capital(&fault.sentence), fault.mend);
-    let others = fault.others.iter().enumerate().map(|(i, mark)| places.related(mark, i + 1));
+    let others = fault.related().enumerate().map(|(i, mark)| places.related(mark, i + 1));
     let related = (!fault.others.is_empty()).then(|| list(others));
     of_rule(&fault.code.to_string(), &message)
         .with("locations", Some(list([places.location(&fault.here)])))

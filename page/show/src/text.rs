@@ -79,7 +79,7 @@ fn places(placed: &[Placed], width: usize, with_source: bool) -> String {
 }
 
 fn without_excerpt(mark: &Mark, with_source: bool) -> String {
-    let Mark { node, span, label } = mark;
+    let Mark { node, span, label, .. } = mark;
     let outside = if with_source { ", which is no place in the source" } else { "" };
     format!("  node {node}, bytes {} to {}{outside}: {label}\n", span.from, span.to)
 }

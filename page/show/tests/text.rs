@@ -41,6 +41,8 @@ REFUSED  ward.quanta: 2 faults
 [62] the lot `lot` is used more than once: stock would count double
   4 |     entry issue(lot: Q_Asset<Morphine>, to: Q_Address)
     |                 ^^^ this lot
+  8 |         send(to, lot);
+    |                  --- used here
   9 |         stock.merge(lot);
     |                     --- its second use
   mend: keep one use; to divide a lot use `split`
@@ -60,6 +62,7 @@ REFUSED  ward.quanta: 2 faults
 
 [62] the lot `lot` is used more than once: stock would count double
   node 18, bytes 110 to 113: this lot
+  node 38, bytes 222 to 225: used here
   node 44, bytes 248 to 251: its second use
   mend: keep one use; to divide a lot use `split`
 

@@ -1,10 +1,12 @@
 //! What each code of a report and each refusal of an image means, in words for a pharmacist. They
 //! stand in one file, `words.txt`; help, `explain`, text, HTML and SARIF are made from it.
 
+mod case;
 mod find;
 mod help;
 mod read;
 
+pub use case::Case;
 pub use find::find;
 pub use help::{explain, explain_claims, explain_list, explain_term, help_page, last_lines};
 pub use read::{Trouble, read};
@@ -23,22 +25,33 @@ pub struct Entry {
     /// The sentence of a report, with `{entry}`, `{name}` and the other `BLANKS` where the contract's
     /// names stand.
     pub fault: String,
-    /// The sentence where the offence has no related place, for the one code where that differs.
-    pub alone: String,
-    /// What stands at the place, and at the related place where the rule has one.
+    /// The sentence where a `burns` clause is one of the uses, for 62.
+    pub burned: String,
+    /// What stands at the place, and at the other place that the rule speaks of.
     pub here: String,
     pub there: String,
+    /// What stands at the further places of 62: the first use, uses after the second, the clause.
+    pub first: String,
+    pub more: String,
+    pub clause: String,
     pub means: String,
     pub matters: String,
     /// How to mend it, in one line, with blanks as in `fault`.
     pub mend: String,
-    /// The same for a lot that no `burns` clause can use up, for the one code where that differs.
-    pub kept: String,
+    /// The same for the cases of the code, in the order of `Case::of_code`.
+    pub mends: Vec<(Case, String)>,
     /// How to mend it, at length and without blanks.
     pub how: String,
     /// An example that shows it, and the same mended. Empty for refusals that no source can show.
     pub before: String,
     pub after: String,
+}
+
+impl Entry {
+    /// How to mend it, in one line, for a case.
+    pub fn mend_for(&self, case: Case) -> &str {
+        self.mends.iter().find(|(of, _)| *of == case).map_or(&self.mend, |(_, mend)| mend)
+    }
 }
 
 /// A word of the language, a line of the report or an exit status, in plain words.
@@ -81,14 +94,12 @@ pub const CODES: &[u16] =
 /// The refusals of document 01.
 pub const REFUSALS: &[u16] = &[1, 2, 3, 4, 5, 6, 7, 8, 9];
 
-/// The codes whose records can have a related place.
-pub const RELATED: &[u16] = &[20, 21, 23, 25, 27, 62];
+/// The codes that speak of another place: those whose records can have a related place, and those whose
+/// other declaration is found in the tree (24, 26, 28, 29, 31).
+pub const WITH_OTHERS: &[u16] = &[20, 21, 23, 24, 25, 26, 27, 28, 29, 31, 62];
 
-/// The one of these whose records can also have none.
-pub const MAY_STAND_ALONE: u16 = 62;
-
-/// The code that a `burns` clause can mend, for some lots.
-pub const MAY_BE_BURNED: u16 = 61;
+/// The code whose other places are uses of a lot.
+pub const USES: u16 = 62;
 
 /// The blanks that a sentence may have: what the contract's names are filled in for.
 pub const BLANKS: &[&str] = &[
@@ -104,6 +115,18 @@ pub const BLANKS: &[&str] = &[
     "given",
     "declared",
     "writes",
+    // those of a case
+    "near",
+    "fresh",
+    "taken",
+    "declare",
+    "asset",
+    "owner",
+    "stored",
+    "base",
+    "wrong",
+    "to",
+    "second",
 ];
 
 fn words() -> &'static Words {

@@ -1,9 +1,7 @@
 //! The reader of the file of words. It is strict: what it does not know, what is missing and what
 //! stands twice is trouble, with the line where it stands.
 
-use crate::{
-    BLANKS, CHECKS, CODES, Entry, Gap, MAY_BE_BURNED, MAY_STAND_ALONE, REFUSALS, RELATED, Term, Words,
-};
+use crate::{BLANKS, CHECKS, CODES, Case, Entry, Gap, REFUSALS, Term, USES, WITH_OTHERS, Words};
 use std::fmt;
 
 /// What is wrong with a file of words, and in which line.
@@ -103,7 +101,8 @@ fn section_line<'a>(section: &mut Section<'a>, at: usize, line: &'a str) -> Resu
 
 fn field(at: usize, line: &str) -> Result<Field<'_>, Trouble> {
     match line.split_once(':') {
-        Some((name, rest)) if !name.contains(' ') => {
+        // a name, or a name and its case: `mend near`
+        Some((name, rest)) if name.split(' ').all(|w| !w.is_empty()) && name.split(' ').count() <= 2 => {
             let first = rest.trim();
             Ok(Field { line: at, name, text: if first.is_empty() { vec![] } else { vec![first] } })
         }
@@ -155,9 +154,10 @@ fn gap(section: &Section, before: &[Gap]) -> Result<Gap, Trouble> {
     Ok(Gap { word: section.of.to_string(), means, example })
 }
 
-/// The fields of a code. A refusal has no place, so it has none of `alone`, `here`, `there`, `kept`.
+/// The fields of a code, beside its cases. A refusal has no place, so it has none of those of places.
 const FIELDS: &[&str] = &[
-    "title", "fault", "alone", "here", "there", "means", "matters", "mend", "kept", "how", "before", "after",
+    "title", "fault", "burned", "here", "there", "first", "more", "clause", "means", "matters", "mend",
+    "how", "before", "after",
 ];
 
 fn entry(section: &Section, numbers: &[u16], before: &[Entry]) -> Result<Entry, Trouble> {
@@ -167,7 +167,8 @@ fn entry(section: &Section, numbers: &[u16], before: &[Entry]) -> Result<Entry, 
     if before.iter().any(|e| e.number == number) {
         return trouble(section.line, format!("`{} {number}` stands twice", section.kind));
     }
-    only(section, FIELDS)?;
+    let cases = Case::of_code(number).iter().map(|case| case.field());
+    only(section, &FIELDS.iter().copied().chain(cases).collect::<Vec<_>>())?;
     let entry = Entry { number, ..placed(section, number)? };
     blanks_known(section)?;
     Ok(entry)
@@ -177,24 +178,34 @@ fn entry(section: &Section, numbers: &[u16], before: &[Entry]) -> Result<Entry, 
 /// place, an example.
 fn placed(section: &Section, number: u16) -> Result<Entry, Trouble> {
     let code = section.kind == "code";
-    let related = code && RELATED.contains(&number);
+    let others = code && WITH_OTHERS.contains(&number);
+    let uses = code && number == USES;
     let where_true = |there: bool, name| if there { needed(section, name) } else { absent(section, name) };
     let example = code || find(section, "before")?.is_some();
     Ok(Entry {
         number,
         title: needed(section, "title")?,
         fault: needed(section, "fault")?,
-        alone: where_true(code && number == MAY_STAND_ALONE, "alone")?,
+        burned: where_true(uses, "burned")?,
         here: where_true(code, "here")?,
-        there: where_true(related, "there")?,
+        there: where_true(others, "there")?,
+        first: where_true(uses, "first")?,
+        more: where_true(uses, "more")?,
+        clause: where_true(uses, "clause")?,
         means: needed(section, "means")?,
         matters: needed(section, "matters")?,
         mend: needed(section, "mend")?,
-        kept: where_true(code && number == MAY_BE_BURNED, "kept")?,
+        mends: mends(section, number)?,
         how: needed(section, "how")?,
         before: where_true(example, "before")?,
         after: where_true(example, "after")?,
     })
+}
+
+/// A `mend` for each case of the code.
+fn mends(section: &Section, number: u16) -> Result<Vec<(Case, String)>, Trouble> {
+    let mend = |case: &Case| Ok((*case, needed(section, case.field())?));
+    Case::of_code(number).iter().map(mend).collect()
 }
 
 fn only(section: &Section, known: &[&str]) -> Result<(), Trouble> {
@@ -246,8 +257,9 @@ fn value(field: &Field) -> String {
 /// Blanks stand in the sentences of codes only, and each is known.
 fn blanks_known(section: &Section) -> Result<(), Trouble> {
     for field in section.fields.iter().filter(|f| !matches!(f.name, "before" | "after")) {
-        let may = section.kind == "code"
-            && matches!(field.name, "fault" | "alone" | "here" | "there" | "mend" | "kept");
+        let sentence =
+            matches!(field.name, "fault" | "burned" | "here" | "there" | "first" | "more" | "clause");
+        let may = section.kind == "code" && (sentence || field.name.starts_with("mend"));
         if let Some(blank) = blanks(&value(field)).into_iter().find(|b| !may || !BLANKS.contains(b)) {
             return trouble(field.line, format!("`{{{blank}}}` is no blank of `{}:`", field.name));
         }

@@ -87,7 +87,7 @@ fn unknown() {
 fn misplaced() {
     let here = "here: emitted here\n";
     assert_eq!(trouble(here, &format!("{here}there: elsewhere\n")), "`there:` does not belong here");
-    assert_eq!(trouble(here, &format!("{here}kept: as it is\n")), "`kept:` does not belong here");
+    assert_eq!(trouble(here, &format!("{here}burned: as it is\n")), "`burned:` does not belong here");
     assert_eq!(trouble("[term contract]", "contract\n[term contract]"), "words before the first `[...]`");
     assert_eq!(trouble("[term contract]", "[contract]"), "a head is `[kind of]`, such as `[code 51]`");
     assert_eq!(
@@ -96,6 +96,27 @@ fn misplaced() {
     );
     let no_field = "neither a field, `name: words`, nor set in by two spaces";
     assert_eq!(trouble("  the contract. Tell", " the contract. Tell"), no_field);
+}
+
+/// Each case of a code has its `mend`, and no code has another's.
+#[test]
+fn cases() {
+    let near = WORDS.lines().find(|line| line.starts_with("mend near: ")).expect("a case").to_string() + "\n";
+    assert_eq!(trouble(&near, ""), "`mend near:` is missing in [code 30]");
+    assert_eq!(trouble(&near, "mend near:\n"), "`mend near:` is missing in [code 30]");
+    assert_eq!(trouble(&near, &near.repeat(2)), "`mend near:` stands twice in this entry");
+    let unknown = format!("{near}mend far: elsewhere\n");
+    assert_eq!(trouble(&near, &unknown), "`mend far:` is no field of this entry");
+    let of_another = format!("{near}mend qtov: take it out\n");
+    assert_eq!(trouble(&near, &of_another), "`mend qtov:` is no field of this entry");
+    assert_eq!(
+        trouble("did you mean `{near}`? Write", "did you mean `{far}`? Write"),
+        "`{far}` is no blank of `mend near:`"
+    );
+    for code in words::codes() {
+        let cases: Vec<_> = code.mends.iter().map(|(case, _)| *case).collect();
+        assert_eq!(cases, words::Case::of_code(code.number), "{}", code.number);
+    }
 }
 
 #[test]

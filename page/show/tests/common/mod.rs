@@ -8,6 +8,8 @@ use show::Subject;
 use std::path::Path;
 
 pub mod chance;
+pub mod contracts;
+pub mod follow;
 pub mod json;
 pub mod pages;
 pub mod tags;

@@ -1,0 +1,106 @@
+//! Names that stand twice, and names that are used too early: 20 to 29 but 22.
+
+use super::{Advice, Asked};
+use crate::edit::{Edit, Way, remove, replace};
+use form::kind;
+use words::Case;
+
+impl Asked<'_> {
+    /// 20, 21, 23, 24, 25, 27, 28, 29: one of two gets another name.
+    pub fn repeated(&self) -> Advice {
+        let first = self.offence.related.map_or(0, |place| place.node);
+        let fresh = self.facts.fresh(self.name());
+        let ways = match self.offence.code {
+            20 | 21 => {
+                let declared = self.facts.above(first).unwrap_or(first);
+                vec![vec![remove(declared)], vec![replace(first, &fresh)]]
+            }
+            24 => vec![self.renamed_parameter(&fresh)],
+            27..=29 => vec![self.renamed_let(self.node(), &fresh)],
+            _ => vec![vec![replace(self.node(), &fresh)]],
+        };
+        Advice::new(Case::Plain, ways)
+    }
+
+    /// The parameter under another name, wherever it is meant: not where a field is changed.
+    fn renamed_parameter(&self, fresh: &str) -> Way {
+        let (tree, entry) = (self.facts.tree, self.entry());
+        let inside = entry..tree.end(entry);
+        let changed: Vec<usize> = inside.clone().filter_map(|node| self.facts.changed(node)).collect();
+        let meant = inside.filter(|n| tree.kind(*n) == kind::IDENT && self.facts.is(*n, self.name()));
+        let meant = meant.filter(|node| !changed.contains(node));
+        std::iter::once(self.node()).chain(meant).map(|node| replace(node, fresh)).collect()
+    }
+
+    /// A `let` under another name, and what speaks of it below.
+    fn renamed_let(&self, one: usize, fresh: &str) -> Way {
+        let (tree, entry) = (self.facts.tree, self.entry());
+        let below = (tree.end(one)..tree.end(entry))
+            .filter(|n| tree.kind(*n) == kind::IDENT && self.facts.is(*n, self.name()));
+        std::iter::once(one + 1).chain(below).map(|node| replace(node, fresh)).collect()
+    }
+
+    /// 26: used before its `let`.
+    pub fn too_early(&self) -> Advice {
+        let entry = self.entry();
+        let statement = self.facts.statement_of(self.node()).unwrap_or(0);
+        let Some(one) = self.its_let() else {
+            return Advice::new(Case::Plain, vec![]);
+        };
+        let taken = self.taken_in(entry, self.name());
+        if let Some(taken) = taken {
+            let way = self.renamed_let(one, &self.facts.fresh(self.name()));
+            return Advice::new(Case::Taken, vec![way]).with("taken", taken);
+        }
+        match self.needed_lets(one, statement) {
+            Some(lets) => {
+                let moved = lets.into_iter().map(|node| Edit::Move { node, before: statement });
+                Advice::new(Case::Plain, vec![moved.collect()])
+            }
+            None => Advice::new(Case::Itself, vec![]),
+        }
+    }
+
+    /// The first `let` of the entry that has the offence's name.
+    pub fn its_let(&self) -> Option<usize> {
+        self.facts.parts(self.entry(), kind::LET).find(|one| self.facts.is(one + 1, self.name()))
+    }
+
+    /// What a `let` of this name would collide with.
+    fn taken_in(&self, entry: usize, name: &str) -> Option<&'static str> {
+        let parameter = self.facts.parts(entry, kind::PARAM).any(|param| self.facts.is(param + 1, name));
+        match (self.facts.field(name), parameter) {
+            (Some(_), _) => Some("a state field"),
+            (None, true) => Some("a parameter of this entry"),
+            (None, false) => None,
+        }
+    }
+
+    /// The `let` and each `let` that it needs and that does not stand above the statement, from top to
+    /// bottom. `None` where the statement itself is needed.
+    fn needed_lets(&self, one: usize, statement: usize) -> Option<Vec<usize>> {
+        let (tree, facts) = (self.facts.tree, self.facts);
+        let mut needed = vec![one];
+        let mut next = 0;
+        while let Some(at) = needed.get(next).copied() {
+            let names = (at..tree.end(at)).filter(|node| tree.kind(*node) == kind::IDENT);
+            for name in names {
+                let mut lets = facts.parts(self.entry(), kind::LET);
+                let declared = lets.find(|other| facts.is(other + 1, &facts.text(name)));
+                let late = declared.filter(|other| *other >= statement && !needed.contains(other));
+                needed.extend(late);
+            }
+            next += 1;
+        }
+        // one that stands in a circle needs itself
+        needed.sort_unstable();
+        let in_order = |at: &usize| {
+            let names = (*at..tree.end(*at)).filter(|node| tree.kind(*node) == kind::IDENT);
+            names.into_iter().all(|name| {
+                let mut lets = facts.parts(self.entry(), kind::LET);
+                lets.find(|other| facts.is(other + 1, &facts.text(name))).is_none_or(|other| other < *at)
+            })
+        };
+        (!needed.contains(&statement) && needed.iter().all(in_order)).then_some(needed)
+    }
+}
