@@ -8,7 +8,9 @@ use common::{shown, shown_source};
 
 /// Text as it is read: on one line, without the signs of HTML.
 fn joined(text: &str) -> String {
-    let plain = text.replace("<code>", "`").replace("</code>", "`").replace("&lt;", "<").replace("&gt;", ">");
+    let signs =
+        [("<code>", "`"), ("</code>", "`"), ("&lt;", "<"), ("&gt;", ">"), ("&#39;", "'"), ("&quot;", "\"")];
+    let plain = signs.iter().fold(text.to_string(), |text, (sign, plain)| text.replace(sign, plain));
     plain.split_whitespace().collect::<Vec<_>>().join(" ")
 }
 
@@ -54,6 +56,17 @@ fn no_form_says_more_than_the_rules_look_at() {
             {
                 assert!(!shown.contains(claim), "`{claim}` over {}", gap.example);
             }
+        }
+    }
+}
+
+/// Each card of the page says how to mend the fault in this contract, and then at length.
+#[test]
+fn cards_say_how_at_length() {
+    for entry in words::codes() {
+        let html = joined(&shown_source(show::html, &entry.before));
+        for paragraph in entry.how.split("\n\n") {
+            assert!(html.contains(&joined(paragraph)[1..]), "{}: {paragraph}", entry.number);
         }
     }
 }

@@ -42,8 +42,7 @@ fn the_examples() {
         filled(&entry.fault, &fault.sentence, &entry.before);
         let mend = entry.mend_for(fault.case);
         // a way may name what is not there yet: a declaration, a first value
-        let suggested = ["owner", "caller", "zero"].join(" ");
-        filled(mend, &fault.mend, &format!("{} {suggested}", entry.before));
+        filled(mend, &fault.mend, &format!("{} owner caller", entry.before));
         filled(&entry.here, &fault.here.label, &entry.before);
         let there = fault.others.iter().map(|mark| mark.label.as_str()).collect::<String>();
         let labels = [&entry.there, &entry.first, &entry.more, &entry.clause].map(String::as_str).join(" ");
@@ -161,14 +160,14 @@ fn a_mend_for_each_case() {
         (
             35,
             "state { chief: Q_Address; } entry e(a: u64 signed_by cheif) { }",
-            "did you mean `chief`? Write that, or declare `cheif` in a `state` block",
+            "did you mean `chief`? Then write that, or declare `cheif` in a `state` block",
         ),
         (
             50,
             "state { limit: u64; } invariant Limit > 5;",
-            "did you mean `limit`? Write that, or declare `Limit` in a `state` block",
+            "did you mean `limit`? Then write that, or declare `Limit` in a `state` block",
         ),
-        (37, "asset Morphine; entry e() conserves Morfine { }", "did you mean `Morphine`?"),
+        (37, "asset Morphine; entry e() conserves Morfine { }", "did you mean `Morphine`? Then write that"),
         (
             38,
             "asset M; entry e() mints QTOV { }",

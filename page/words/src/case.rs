@@ -40,6 +40,12 @@ pub enum Case {
     Wrong,
     /// A field that holds an address is changed.
     Assign,
+    /// It is called or changed.
+    Called,
+    /// Its type makes an asset known.
+    Known,
+    /// Other `emit`s of the event give another number of values.
+    Unlike,
     /// Both names of a lot are used.
     Both,
     /// A `burns` clause would use the lot up.
@@ -52,11 +58,12 @@ use Case::*;
 
 /// Every code that has more cases than the plain one.
 const OF_CODES: &[(u16, &[Case])] = &[
+    (20, &[Known]),
     (22, &[Twice]),
     (26, &[Itself, Taken]),
-    (30, &[Near]),
+    (30, &[Near, Unlike]),
     (31, &[Fits]),
-    (32, &[Stored]),
+    (32, &[Stored, Taken, Called]),
     (33, &[Near, Taken, Local, Deployer]),
     (34, &[Has, Near, Changes, Beside]),
     (35, &[Near, Taken, Beside]),
@@ -68,7 +75,7 @@ const OF_CODES: &[(u16, &[Case])] = &[
     (50, &[Near, Taken, Beside]),
     (51, &[Clause, Wrong, Beside]),
     (60, &[Both]),
-    (61, &[Burn, Beside, First]),
+    (61, &[Burn, Beside, First, Deployer]),
     (62, &[Burned, First]),
 ];
 
@@ -99,6 +106,9 @@ impl Case {
             Clause => "mend clause",
             Wrong => "mend wrong",
             Assign => "mend assign",
+            Called => "mend called",
+            Known => "mend known",
+            Unlike => "mend unlike",
             Both => "mend both",
             Burn => "mend burn",
             Burned => "mend burned",

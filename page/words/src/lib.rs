@@ -120,6 +120,7 @@ pub const BLANKS: &[&str] = &[
     "fresh",
     "taken",
     "declare",
+    "event",
     "asset",
     "owner",
     "stored",

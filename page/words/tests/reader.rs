@@ -110,7 +110,7 @@ fn cases() {
     let of_another = format!("{near}mend qtov: take it out\n");
     assert_eq!(trouble(&near, &of_another), "`mend qtov:` is no field of this entry");
     assert_eq!(
-        trouble("did you mean `{near}`? Write", "did you mean `{far}`? Write"),
+        trouble("did you mean `{near}`? Then", "did you mean `{far}`? Then"),
         "`{far}` is no blank of `mend near:`"
     );
     for code in words::codes() {

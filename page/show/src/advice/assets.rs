@@ -2,6 +2,7 @@
 
 use super::{Advice, Asked};
 use crate::edit::{Way, item, remove, replace, statement};
+use crate::facts::Row;
 use crate::near::nearest;
 use form::kind;
 use words::Case;
@@ -79,9 +80,17 @@ impl Asked<'_> {
         let (facts, entry) = (self.facts, self.entry());
         let burns = facts.tree.kind(clause) == kind::BURNS;
         let rows = facts.rows(entry).into_iter().filter(|row| burns && self.only_use_is(clause, row.place));
-        let sent =
-            rows.map(|row| statement(entry, format!("send({}, {});", self.addressee(entry), row.name)));
-        std::iter::once(remove(clause)).chain(sent).collect()
+        std::iter::once(remove(clause)).chain(rows.flat_map(|row| self.sent_lot(entry, &row))).collect()
+    }
+
+    /// The lot sent to somebody; one that is called `deployer`, under another name.
+    fn sent_lot(&self, entry: usize, row: &Row) -> Way {
+        let to = self.addressee(entry);
+        if row.name != "deployer" {
+            return vec![statement(entry, format!("send({to}, {});", row.name))];
+        }
+        let fresh = self.facts.fresh(&row.name);
+        vec![replace(row.place, &fresh), statement(entry, format!("send({to}, {fresh});"))]
     }
 
     fn only_use_is(&self, clause: usize, place: usize) -> bool {
@@ -89,11 +98,17 @@ impl Asked<'_> {
         by == Some(clause + 1) && self.facts.uses_of(self.entry(), place).is_empty()
     }
 
-    /// Somebody in this entry that a lot can be sent to.
+    /// Somebody in this entry that a lot can be sent to: an address whose name nothing else has here.
     pub fn addressee(&self, entry: usize) -> String {
         let facts = self.facts;
-        let address = |declared: &usize| facts.is_of_type(*declared, "Q_Address");
-        let found = facts.parts(entry, kind::PARAM).find(address).or_else(|| facts.fields().find(address));
-        found.map_or("caller".to_string(), |declared| facts.text(declared + 1))
+        let param = facts.parts(entry, kind::PARAM).map(|param| (param, 1));
+        let fields = facts.fields().filter(|field| facts.field(&facts.text(field + 1)) == Some(*field));
+        let mut addresses = param.chain(fields.map(|field| (field, 0)));
+        let found = addresses.find(|(declared, namesakes)| {
+            let name = facts.text(declared + 1);
+            let plain = name != "deployer" && facts.namesakes(entry, &name) == *namesakes;
+            plain && facts.is_of_type(*declared, "Q_Address")
+        });
+        found.map_or("caller".to_string(), |(declared, _)| facts.text(declared + 1))
     }
 }

@@ -49,6 +49,13 @@ impl Asked<'_> {
             return Advice::new(Case::Beside, vec![]).with("second", second);
         }
         let to = self.addressee(entry);
+        if self.name() == "deployer" {
+            let fresh = facts.fresh("deployer");
+            let named = self.parameter().map_or(self.node(), |param| param) + 1;
+            let send = statement(entry, format!("send({to}, {fresh});"));
+            let way = vec![replace(named, &fresh), send];
+            return Advice::new(Case::Deployer, vec![way]).with("to", to).with("fresh", fresh);
+        }
         let sent = vec![statement(entry, format!("send({to}, {});", self.name()))];
         let ways = std::iter::once(sent).chain(self.stored_lot());
         match self.burnable() {
@@ -75,7 +82,9 @@ impl Asked<'_> {
         let (facts, entry) = (self.facts, self.entry());
         let asset = facts.text(facts.asset_of(self.parameter()?)?);
         let holds = |field: &usize| facts.asset_of(*field).is_some_and(|other| facts.is(other, &asset));
-        let field = facts.text(facts.fields().find(holds)? + 1);
+        let mut names = facts.fields().map(|field| facts.text(field + 1));
+        let plain = |name: &String| name != "deployer" && facts.named_in(entry, name).is_none();
+        let field = names.find(|name| plain(name) && facts.field(name).as_ref().is_some_and(holds))?;
         let stored = statement(entry, format!("{field}.merge({});", self.name()));
         let named = self.writes_with(entry, &[], None).contains(&field);
         let writes = if named { vec![] } else { self.with_writes(entry, &[field], None) };

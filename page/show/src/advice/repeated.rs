@@ -10,16 +10,32 @@ impl Asked<'_> {
     pub fn repeated(&self) -> Advice {
         let first = self.offence.related.map_or(0, |place| place.node);
         let fresh = self.facts.fresh(self.name());
-        let ways = match self.offence.code {
-            20 | 21 => {
-                let declared = self.facts.above(first).unwrap_or(first);
-                vec![vec![remove(declared)], vec![replace(first, &fresh)]]
-            }
-            24 => vec![self.renamed_parameter(&fresh)],
-            27..=29 => vec![self.renamed_let(self.node(), &fresh)],
-            _ => vec![vec![replace(self.node(), &fresh)]],
+        let way = match self.offence.code {
+            20 | 21 => return self.declared_twice(first, &fresh),
+            24 => self.renamed_parameter(&fresh),
+            25 => vec![replace(self.less_used(first), &fresh)],
+            27..=29 => self.renamed_let(self.node(), &fresh),
+            _ => vec![replace(self.node(), &fresh)],
         };
-        Advice::new(Case::Plain, ways)
+        Advice::new(Case::Plain, vec![way])
+    }
+
+    /// 20 and 21: the first declaration does not count, but its type can make an asset known.
+    fn declared_twice(&self, first: usize, fresh: &str) -> Advice {
+        let tree = self.facts.tree;
+        let declared = self.facts.above(first).unwrap_or(first);
+        let renamed = vec![replace(first, fresh)];
+        let lots = (declared..tree.end(declared)).any(|node| self.facts.is(node, "Q_Asset"));
+        if self.offence.code == 20 && lots {
+            return Advice::new(Case::Known, vec![renamed]);
+        }
+        Advice::new(Case::Plain, vec![vec![remove(declared)], renamed])
+    }
+
+    /// The one of two parameters whose name nobody uses it by: uses count for the last lot of a name.
+    fn less_used(&self, first: usize) -> usize {
+        let param = self.facts.above(self.node()).unwrap_or(0);
+        if self.facts.is_of_type(param, "Q_Asset") { first } else { self.node() }
     }
 
     /// The parameter under another name, wherever it is meant: not where a field is changed.

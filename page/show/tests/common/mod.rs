@@ -12,6 +12,7 @@ pub mod contracts;
 pub mod follow;
 pub mod json;
 pub mod pages;
+pub mod random;
 pub mod tags;
 
 /// A file of `samples/`.
