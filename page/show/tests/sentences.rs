@@ -145,99 +145,98 @@ fn every_missing_field_in_one_writes_clause() {
     assert_eq!(mends, ["t", "u", "t"].map(mend));
 }
 
+/// A code, the items of a contract that has it, and its mend.
+type Mend = (u16, &'static str, &'static str);
+
+const MENDS: &[Mend] = &[
+    (
+        35,
+        "state { chief: Q_Address; } entry e(a: u64 signed_by cheif) { }",
+        "did you mean `chief`? Then write that, or declare `cheif` in a `state` block",
+    ),
+    (
+        50,
+        "state { limit: u64; } invariant Limit > 5;",
+        "did you mean `limit`? Then write that, or declare `Limit` in a `state` block",
+    ),
+    (37, "asset Morphine; entry e() conserves Morfine { }", "did you mean `Morphine`? Then write that"),
+    (
+        38,
+        "asset M; entry e() mints QTOV { }",
+        "take the clause out: `QTOV` is the ledger's own, and is never minted",
+    ),
+    (34, "state { s: u64; } entry e() { s.has(1); }", "write `contains` instead of `has`"),
+    (
+        34,
+        "state { s: u64; } entry e() { s.inset(1); }",
+        "did you mean `insert`? It changes `s`, so write `writes s` too",
+    ),
+    (
+        35,
+        "entry e(a: u64 signed_by deployer) { }",
+        "mend the 32 on it: the field that stores `deployer` can be the signer",
+    ),
+    (36, "entry e() reads deployer { }", "take `deployer` out of the clause: it is no state field"),
+    (
+        36,
+        "entry e(a: u64) reads a { }",
+        "take `a` out of the clause: it is a parameter of entry `e`, and only state fields stand here",
+    ),
+    (
+        35,
+        "entry e(b: u64, a: u64 signed_by b) { }",
+        "store the signer in a field of another name, such as `b_2`, and write that here: `b` is a parameter of \
+             entry `e`, and no field can have the same name",
+    ),
+    (
+        33,
+        "genesis { let x = 1; x = 2; }",
+        "take this assignment out, or assign to a state field: `x` is a `let` here",
+    ),
+    (
+        26,
+        "entry e() { let x = x; }",
+        "the `let x` needs this value itself: write here the field, the parameter or the number that you mean",
+    ),
+    (
+        26,
+        "entry e(x: u64) { guard x > 1; let x = 2; }",
+        "give `let x` another name: `x` is a parameter of this entry too",
+    ),
+    (
+        51,
+        "state { a: u64; b: u64; } entry e() { a = 1; b = 2; }",
+        "add a clause `writes a, b` to the entry, or leave `a` alone",
+    ),
+    (
+        51,
+        "state { a: u64; b: u64; } entry e() writes a, x { b = 2; }",
+        "write `writes a, b`, without `x`, which is no state field, or leave `b` alone",
+    ),
+    (
+        51,
+        "state { a: Q_Address; } entry e() { a.credit(1); }",
+        "mend the 40 on this call first: this one goes with it",
+    ),
+    (
+        62,
+        "asset M; entry e(lot: Q_Asset<M>) burns M { send(caller, lot); }",
+        "take `burns M` out, or what else is done with `lot`: the clause is a use already",
+    ),
+    (
+        61,
+        "asset M; entry e(lot: Q_Asset<M>, lot: Q_Asset<M>) { send(caller, lot); }",
+        "give each its own name first (25, 27, 29): more than one thing here is called `lot`, and uses count for \
+             the last one",
+    ),
+];
+
 /// The mends follow the case.
 #[test]
 fn a_mend_for_each_case() {
-    let of = |code: u16, items: &str| {
+    for (code, items, mend) in MENDS {
         let faults = faults_of(&format!("contract C {{ {items} }}"));
-        faults
-            .into_iter()
-            .find(|fault| fault.code == code)
-            .unwrap_or_else(|| panic!("no {code}: {items}"))
-            .mend
-    };
-    for (code, items, mend) in [
-        (
-            35,
-            "state { chief: Q_Address; } entry e(a: u64 signed_by cheif) { }",
-            "did you mean `chief`? Then write that, or declare `cheif` in a `state` block",
-        ),
-        (
-            50,
-            "state { limit: u64; } invariant Limit > 5;",
-            "did you mean `limit`? Then write that, or declare `Limit` in a `state` block",
-        ),
-        (37, "asset Morphine; entry e() conserves Morfine { }", "did you mean `Morphine`? Then write that"),
-        (
-            38,
-            "asset M; entry e() mints QTOV { }",
-            "take the clause out: `QTOV` is the ledger's own, and is never minted",
-        ),
-        (34, "state { s: u64; } entry e() { s.has(1); }", "write `contains` instead of `has`"),
-        (
-            34,
-            "state { s: u64; } entry e() { s.inset(1); }",
-            "did you mean `insert`? It changes `s`, so write `writes s` too",
-        ),
-        (
-            35,
-            "entry e(a: u64 signed_by deployer) { }",
-            "mend the 32 on it: the field that stores `deployer` can be the signer",
-        ),
-        (36, "entry e() reads deployer { }", "take `deployer` out of the clause: it is no state field"),
-        (
-            36,
-            "entry e(a: u64) reads a { }",
-            "take `a` out of the clause: it is a parameter of entry `e`, and only state fields stand here",
-        ),
-        (
-            35,
-            "entry e(b: u64, a: u64 signed_by b) { }",
-            "store the signer in a field of another name, such as `b_2`, and write that here: `b` is a parameter of \
-             entry `e`, and no field can have the same name",
-        ),
-        (
-            33,
-            "genesis { let x = 1; x = 2; }",
-            "take this assignment out, or assign to a state field: `x` is a `let` here",
-        ),
-        (
-            26,
-            "entry e() { let x = x; }",
-            "the `let x` needs this value itself: write here the field, the parameter or the number that you mean",
-        ),
-        (
-            26,
-            "entry e(x: u64) { guard x > 1; let x = 2; }",
-            "give `let x` another name: `x` is a parameter of this entry too",
-        ),
-        (
-            51,
-            "state { a: u64; b: u64; } entry e() { a = 1; b = 2; }",
-            "add a clause `writes a, b` to the entry, or leave `a` alone",
-        ),
-        (
-            51,
-            "state { a: u64; b: u64; } entry e() writes a, x { b = 2; }",
-            "write `writes a, b`, without `x`, which is no state field, or leave `b` alone",
-        ),
-        (
-            51,
-            "state { a: Q_Address; } entry e() { a.credit(1); }",
-            "mend the 40 on this call first: this one goes with it",
-        ),
-        (
-            62,
-            "asset M; entry e(lot: Q_Asset<M>) burns M { send(caller, lot); }",
-            "take `burns M` out, or what else is done with `lot`: the clause is a use already",
-        ),
-        (
-            61,
-            "asset M; entry e(lot: Q_Asset<M>, lot: Q_Asset<M>) { send(caller, lot); }",
-            "give each its own name first (25, 27, 29): more than one thing here is called `lot`, and uses count for \
-             the last one",
-        ),
-    ] {
-        assert_eq!(of(code, items), mend, "{code} {items}");
+        let fault = faults.iter().find(|fault| fault.code == *code).expect("the code");
+        assert_eq!(fault.mend, *mend, "{code} {items}");
     }
 }

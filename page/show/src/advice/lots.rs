@@ -103,8 +103,9 @@ impl Asked<'_> {
         let asset = facts.text(facts.asset_of(self.parameter()?)?);
         let declared = facts.items(kind::ASSET).any(|item| facts.is(item + 1, &asset));
         let same = |param: &usize| facts.asset_of(*param).is_some_and(|other| facts.is(other, &asset));
-        let mut others = facts.parts(entry, kind::PARAM).filter(same);
-        let unused = others.all(|param| facts.uses_of(entry, param + 1).is_empty());
+        let lots: Vec<usize> = facts.parts(entry, kind::PARAM).filter(same).collect();
+        let is_lot = |one: &usize| lots.iter().any(|lot| facts.tree.text(lot + 1) == facts.tree.text(*one));
+        let unused = !facts.uses(entry).iter().any(is_lot);
         (declared && unused).then_some(asset)
     }
 

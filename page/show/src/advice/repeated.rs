@@ -3,6 +3,7 @@
 use super::{Advice, Asked};
 use crate::edit::{Edit, Way, remove, replace};
 use form::kind;
+use std::collections::{BTreeSet, HashMap};
 use words::Case;
 
 impl Asked<'_> {
@@ -93,30 +94,38 @@ impl Asked<'_> {
     }
 
     /// The `let` and each `let` that it needs and that does not stand above the statement, from top to
-    /// bottom. `None` where the statement itself is needed.
+    /// bottom. `None` where they need the statement itself.
     fn needed_lets(&self, one: usize, statement: usize) -> Option<Vec<usize>> {
-        let (tree, facts) = (self.facts.tree, self.facts);
-        let mut needed = vec![one];
-        let mut next = 0;
-        while let Some(at) = needed.get(next).copied() {
-            let names = (at..tree.end(at)).filter(|node| tree.kind(*node) == kind::IDENT);
-            for name in names {
-                let mut lets = facts.parts(self.entry(), kind::LET);
-                let declared = lets.find(|other| facts.is(other + 1, &facts.text(name)));
-                let late = declared.filter(|other| *other >= statement && !needed.contains(other));
-                needed.extend(late);
+        let lets = self.first_lets();
+        let mut needed = BTreeSet::from([one]);
+        let mut open = vec![one];
+        while let Some(at) = open.pop() {
+            for other in self.lets_in(at, &lets) {
+                if other == statement {
+                    return None;
+                }
+                // one that stands below is a fault of its own, which stays as it is
+                if statement < other && other < at && needed.insert(other) {
+                    open.push(other);
+                }
             }
-            next += 1;
         }
-        // one that stands in a circle needs itself
-        needed.sort_unstable();
-        let in_order = |at: &usize| {
-            let names = (*at..tree.end(*at)).filter(|node| tree.kind(*node) == kind::IDENT);
-            names.into_iter().all(|name| {
-                let mut lets = facts.parts(self.entry(), kind::LET);
-                lets.find(|other| facts.is(other + 1, &facts.text(name))).is_none_or(|other| other < *at)
-            })
-        };
-        (!needed.contains(&statement) && needed.iter().all(in_order)).then_some(needed)
+        (one != statement).then(|| needed.into_iter().collect())
+    }
+
+    /// The first `let` of each name in the entry.
+    fn first_lets(&self) -> HashMap<&[u8], usize> {
+        let mut lets = HashMap::new();
+        for one in self.facts.parts(self.entry(), kind::LET) {
+            lets.entry(self.facts.tree.text(one + 1)).or_insert(one);
+        }
+        lets
+    }
+
+    /// The `let`s whose names stand in a statement.
+    fn lets_in(&self, statement: usize, lets: &HashMap<&[u8], usize>) -> Vec<usize> {
+        let tree = self.facts.tree;
+        let idents = (statement..tree.end(statement)).filter(|node| tree.kind(*node) == kind::IDENT);
+        idents.filter_map(|ident| lets.get(tree.text(ident)).copied()).collect()
     }
 }

@@ -39,6 +39,8 @@ pub const TEMPLATES: &[Template] = &[
     (26, Plain, "state { $F: u64; } entry $E($P: u64) { % guard $X > 0; % let $X = $F - $P; % }"),
     (26, Plain, "entry $E($P: u64) { % guard $X > 0; let $M = $P; % let $X = $M + $M; }"),
     (26, Plain, "state { $G: Q_Asset<$A>; } entry $E($T: Q_Address) writes $G { send($T, $X); let $X = $G.split(5); }"),
+    (26, Plain, "entry $E() { % guard $X > 0; let $X = $M; % let $M = 5; }"),
+    (26, Itself, "entry $E() { let $M = $X; let $P = $M; let $X = $P; }"),
     (26, Itself, "entry $E($P: u64) { % let $X = $X - $P; }"),
     (26, Itself, "entry $E() { let $M = $X; let $X = $M; }"),
     (26, Taken, "state { $F: u64; } entry $E() { % guard $F > 0; let $F = 5; guard $F > 1; }"),
