@@ -130,8 +130,8 @@ const HEAD: &str = "\
 <!-- Made from page/words/words.txt by `isonkaypu help-page`. Edit that file, not this one. -->
 # Help: every line and number of a report
 
-For whoever uploads a contract and gets a report back. `isonkaypu explain 62`, `isonkaypu explain image 5` and
-`isonkaypu explain lot` print the same words.
+For whoever uploads a contract and gets a report back. `isonkaypu explain 62`, `isonkaypu explain image 5`,
+`isonkaypu explain lot` and `isonkaypu explain not-checked` print the same words.
 ";
 
 const LINES: &str = "\
