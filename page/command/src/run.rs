@@ -172,18 +172,10 @@ fn plain(path: &Path) -> String {
     if root { format!("/{parts}") } else { parts }
 }
 
-/// `62`, `code 62`, `image 5`, `lot`, or nothing for all that there is.
+/// `62`, `image 5`, `lot`, `not-checked`, or nothing for all that there is.
 fn explain(what: &[String]) -> Result<String, String> {
     let words: Vec<&str> = what.iter().flat_map(|w| w.split_whitespace()).collect();
-    let number = |text: &str| text.parse::<u16>().ok();
-    let entry = match words[..] {
-        [] => return Ok(words::explain_list()),
-        ["image", n] | ["list", "refused", n] => number(n).and_then(words::refusal),
-        ["code", n] | [n] => number(n).and_then(words::code),
-        _ => None,
-    };
-    let term = || words::term(&words.join(" ")).map(words::explain_term);
     let nothing =
         || format!("nothing to explain by the name `{}`; `isonkaypu explain` lists all", words.join(" "));
-    entry.map(words::explain).or_else(term).ok_or_else(nothing)
+    words::find(&words).ok_or_else(nothing)
 }

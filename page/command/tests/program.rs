@@ -249,6 +249,10 @@ fn explain() {
     begins(&["explain", "list", "refused", "9"], "list refused 9: ");
     begins(&["explain", "lot"], "lot\n  A definite quantity of an asset");
     begins(&["explain", "use", "of", "a", "lot"], "use of a lot\n");
+    begins(&["explain", "9"], "list refused 9: ");
+    begins(&["explain", "burns"], "burns\n  A clause");
+    begins(&["explain", "linear"], "The check of lots\n");
+    begins(&["explain", "not-checked"], "Checked\n");
     begins(&["explain"], "Refusals of an image\n");
     for unknown in [["explain", "63"], ["explain", "5"], ["explain", "image 10"], ["explain", "box"]] {
         is_trouble(&run(&unknown), "nothing to explain");

@@ -90,8 +90,8 @@ fn a_named_archive_that_was_made_from_something_else() {
     }
     // a file under another name
     note(&folder, &made_from(&root));
-    fs::rename(root.join("crates/image/src/lib.rt"), root.join("crates/image/src/names.rt"))
-        .expect("renamed");
+    let sources = root.join("crates/image/src");
+    fs::rename(sources.join("lib.rt"), sources.join("other.rt")).expect("renamed");
     refused(&folder, &root, "made from other crates");
 }
 

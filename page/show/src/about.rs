@@ -19,66 +19,34 @@ pub fn made_by() -> String {
     format!("{TOOL} {VERSION}, library {}", library())
 }
 
-/// A check in words: the pass, what it is called for people, what it looks at.
-pub struct Check {
-    pub pass: Pass,
-    pub word: &'static str,
-    pub looks_at: &'static str,
-}
-
-/// The three checks, in the order in which they run.
-const CHECKS: [Check; 3] = [
-    Check {
-        pass: Pass::Resolve,
-        word: "names",
-        looks_at: "every name must be declared once, and used only where it may be",
-    },
-    Check {
-        pass: Pass::Access,
-        word: "access",
-        looks_at: "an entry may change only what its `writes` clauses name",
-    },
-    Check {
-        pass: Pass::Linear,
-        word: "lots",
-        looks_at: "every lot must be used exactly once: none may be lost, none may count double",
-    },
-];
-
-/// Something that was not looked at.
+/// Something that was looked at, or was not: what it is called for people, and what that means.
 #[derive(Clone, Copy)]
-pub struct Gap {
+pub struct Claim {
     pub word: &'static str,
     pub means: &'static str,
 }
 
-/// What this checker never looks at.
-const NEVER_CHECKED: [Gap; 2] = [
-    Gap {
-        word: "supply (conserve)",
-        means: "whether new stock is created only in entries whose `mints` clause says so, and never in genesis",
-    },
-    Gap {
-        word: "signed authority",
-        means: "whether new stock needs the signature of somebody who was given that right",
-    },
-];
-
-/// The checks that ran: all three, or none where the image could not be read.
-pub fn checked(subject: &Subject) -> &'static [Check] {
-    if subject.report().is_some() { &CHECKS } else { &[] }
+/// The three checks with their passes, in the order in which they run.
+fn checks() -> impl Iterator<Item = (Pass, Claim)> {
+    let claim = |term: &'static words::Term| Claim { word: &term.word, means: &term.means };
+    Pass::ALL.iter().copied().zip(words::checks().iter().map(claim))
 }
 
-/// What nobody may take for checked: where no check ran, the three checks too.
-pub fn not_checked(subject: &Subject) -> Vec<Gap> {
-    let missed = CHECKS.iter().filter(|_| subject.report().is_none());
-    let missed = missed.map(|check| Gap { word: check.word, means: check.looks_at });
-    missed.chain(NEVER_CHECKED).collect()
+/// The checks that ran: all three, or none where the image could not be read.
+pub fn checked(subject: &Subject) -> Vec<(Pass, Claim)> {
+    checks().filter(|_| subject.report().is_some()).collect()
+}
+
+/// What nobody may take for checked: what no rule looks at, and the three checks where none ran.
+pub fn not_checked(subject: &Subject) -> Vec<Claim> {
+    let missed = checks().filter(|_| subject.report().is_none()).map(|(_, claim)| claim);
+    let gaps = words::gaps().iter().map(|gap| Claim { word: &gap.word, means: &gap.means });
+    missed.chain(gaps).collect()
 }
 
 /// What people call a pass.
 pub fn word(pass: Pass) -> &'static str {
-    CHECKS.iter().find(|check| check.pass == pass).map_or("", |check| check.word)
+    checks().find(|(of, _)| *of == pass).map_or("", |(_, claim)| claim.word)
 }
 
 /// A sentence with a capital letter at its beginning.
@@ -92,16 +60,9 @@ pub fn capital(text: &str) -> String {
 mod tests {
     use super::*;
 
-    /// The text's last line names the same checks and the same gaps.
-    #[test]
-    fn every_form_names_the_same() {
-        let checks = CHECKS.map(|check| check.word).join(", ");
-        let gaps = NEVER_CHECKED.map(|gap| gap.word).join(", ");
-        assert_eq!(format!("Checked: {checks}. NOT checked: {gaps}"), words::CHECKED);
-    }
-
     #[test]
     fn every_pass_has_its_check() {
-        assert_eq!(CHECKS.map(|check| check.pass), Pass::ALL);
+        assert_eq!(checks().map(|(pass, _)| pass).collect::<Vec<_>>(), Pass::ALL);
+        assert!(Pass::ALL.iter().map(|pass| word(*pass)).eq(words::CHECKS));
     }
 }

@@ -4,11 +4,11 @@
 use form::{Tree, kind};
 use isonkaypu::Offence;
 
-/// An offence in its tree, with all offences of the report.
+/// An offence in its tree, with what the blanks of its case stand for.
 pub struct Blanks<'t> {
     pub tree: &'t Tree<'t>,
     pub offence: &'t Offence,
-    pub offences: &'t [Offence],
+    pub of_case: &'t [(&'static str, String)],
 }
 
 /// The text that a node carries.
@@ -31,12 +31,15 @@ impl Blanks<'_> {
     }
 
     fn value(&self, blank: &str) -> String {
+        if let Some((_, value)) = self.of_case.iter().find(|(of, _)| *of == blank) {
+            return value.clone();
+        }
         let node = self.offence.place.node;
         match blank {
             "name" => self.name(),
             "entry" => self.tree.entry_of(node).map_or("?".to_string(), |e| self.text(e + 1)),
             "where" => self.item(),
-            "other" => self.burnable().unwrap_or_else(|| self.bottom(node + 2)),
+            "other" => self.bottom(node + 2),
             "called" => self.called(node + 1),
             "clause" => self.above(node).map_or("", |c| clause_word(self.tree.kind(c))).to_string(),
             "parameter" => self.above(node).map_or(String::new(), |p| self.text(p + 1)),
@@ -44,7 +47,6 @@ impl Blanks<'_> {
             "count" => self.items(kind::ASSET).count().to_string(),
             "given" => values(self.tree.children(node).skip(1).count()),
             "declared" => values(self.declared(node + 1)),
-            "writes" => self.writes(),
             _ => String::new(),
         }
     }
@@ -88,18 +90,6 @@ impl Blanks<'_> {
         }
     }
 
-    /// The asset of the lot at the place, where a `burns` clause with it could use the lot up: the lot is
-    /// a parameter, and the asset is declared.
-    pub fn burnable(&self) -> Option<String> {
-        let name = self.offence.place.node;
-        let param = self.above(name).filter(|p| self.tree.kind(*p) == kind::PARAM)?;
-        let ty = self.tree.end(param + 1);
-        let asset = self.tree.children(ty).nth(1).filter(|a| self.tree.kind(*a) == kind::TYPE)?;
-        let declared =
-            self.items(kind::ASSET).any(|item| self.tree.text(item + 1) == self.tree.text(asset + 1));
-        declared.then(|| self.text(asset + 1))
-    }
-
     /// The item that the place stands in.
     fn item(&self) -> String {
         let node = self.offence.place.node;
@@ -140,25 +130,6 @@ impl Blanks<'_> {
             }
         }
     }
-
-    /// What the entry's `writes` clause should name: what its clauses name now, and every field that
-    /// the report misses there.
-    fn writes(&self) -> String {
-        let Some(entry) = self.tree.entry_of(self.offence.place.node) else {
-            return String::new();
-        };
-        let clauses = self.tree.children(entry).filter(|c| self.tree.kind(*c) == kind::WRITES);
-        let named = clauses.flat_map(|c| self.tree.children(c)).map(|n| self.text(n));
-        let here = |o: &&Offence| o.code == 51 && (entry..self.tree.end(entry)).contains(&o.place.node);
-        let missed = self.offences.iter().filter(here).filter_map(|o| o.name.clone());
-        let mut all: Vec<String> = Vec::new();
-        for name in named.chain(missed) {
-            if !all.contains(&name) {
-                all.push(name);
-            }
-        }
-        all.join(", ")
-    }
 }
 
 fn clause_word(of: u8) -> &'static str {
@@ -166,5 +137,9 @@ fn clause_word(of: u8) -> &'static str {
 }
 
 fn values(count: usize) -> String {
-    if count == 1 { "1 value".to_string() } else { format!("{count} values") }
+    match count {
+        0 => "no value".to_string(),
+        1 => "1 value".to_string(),
+        _ => format!("{count} values"),
+    }
 }

@@ -1,9 +1,13 @@
 //! An offence in words, with the contract's own names: what every form for people is made from.
 
+use crate::advice::Asked;
 use crate::blanks::{Blanks, text};
-use isonkaypu::{Doubt, Offence, Pass, Place, Report, Span};
+use crate::edit::Way;
+use crate::facts::Facts;
+use crate::others::others;
+use isonkaypu::{Doubt, Offence, Pass, Report, Span};
 use std::borrow::Cow;
-use words::Entry;
+use words::{Case, Entry};
 
 /// A place with what to say of it.
 #[derive(Clone, Debug, PartialEq)]
@@ -15,6 +19,8 @@ pub struct Mark {
     pub span: Span,
     /// What to say of it: "changed here".
     pub label: String,
+    /// Whether the list of document 01 has it: an offence's own place, and its related place.
+    pub listed: bool,
 }
 
 /// An offence in words.
@@ -31,12 +37,25 @@ pub struct Fault {
     pub sentence: String,
     /// Where it stands.
     pub here: Mark,
-    /// Other places that the rule speaks of: an earlier declaration, another use.
+    /// Other places that the rule speaks of, as they stand in the contract: another declaration, other uses.
     pub others: Vec<Mark>,
     /// How to mend it, in one line.
     pub mend: String,
+    /// Which case of its code it is: that of `mend`.
+    pub case: Case,
+    /// The same as `mend` for a program: each way as a list of edits. Empty where only people can follow.
+    pub ways: Vec<Way>,
     /// The entry that it stands in.
     pub entry: Option<String>,
+}
+
+impl Fault {
+    /// The other places for programs: document 01's own first, then those beside it.
+    pub fn related(&self) -> impl Iterator<Item = &Mark> {
+        let [listed, found] =
+            [true, false].map(|listed| self.others.iter().filter(move |o| o.listed == listed));
+        listed.chain(found)
+    }
 }
 
 /// Every offence of a report in words, in the list's order.
@@ -48,7 +67,7 @@ pub fn faults(report: &Report) -> Vec<Fault> {
     let offences = offences(report);
     let in_words = |offence: &Offence| {
         let entry = words::code(offence.code).unwrap_or(&nothing);
-        fault(entry, offence, &Blanks { tree: &tree, offence, offences: &offences })
+        fault(entry, &Asked { facts: Facts { tree: &tree }, offence, offences: &offences })
     };
     offences.iter().map(in_words).collect()
 }
@@ -71,19 +90,28 @@ pub fn list_refused(report: &Report) -> bool {
     report.doubts().iter().any(|doubt| matches!(doubt, Doubt::List(_) | Doubt::Count(_)))
 }
 
-fn fault(entry: &Entry, offence: &Offence, blanks: &Blanks) -> Fault {
-    let alone = offence.related.is_none() && !entry.alone.is_empty();
-    let kept = !entry.kept.is_empty() && blanks.burnable().is_none();
-    let mark =
-        |place: Place, label: &str| Mark { node: place.node, span: place.span, label: blanks.fill(label) };
+fn fault(entry: &Entry, asked: &Asked) -> Fault {
+    let Asked { facts, offence, .. } = *asked;
+    let (tree, node) = (facts.tree, offence.place.node);
+    let advice = asked.advice();
+    let blanks = Blanks { tree, offence, of_case: &advice.blanks };
+    let span = |node: usize| {
+        tree.nodes.get(node).map_or(Span { start: 0, end: 0 }, |n| Span { start: n.from, end: n.to })
+    };
+    let mark = |node, label: &str, listed| Mark { node, span: span(node), label: blanks.fill(label), listed };
+    let in_entry = tree.entry_of(node);
+    let burned =
+        in_entry.and_then(|entry| facts.burned_by(entry, node)).is_some() && !entry.burned.is_empty();
     Fault {
         code: offence.code,
         pass: Pass::of_code(offence.code).unwrap_or(Pass::Resolve),
         title: entry.title.clone(),
-        sentence: blanks.fill(if alone { &entry.alone } else { &entry.fault }),
-        here: mark(offence.place, &entry.here),
-        others: offence.related.map(|place| mark(place, &entry.there)).into_iter().collect(),
-        mend: blanks.fill(if kept { &entry.kept } else { &entry.mend }),
-        entry: blanks.tree.entry_of(offence.place.node).map(|e| text(blanks.tree, e + 1)),
+        sentence: blanks.fill(if burned { &entry.burned } else { &entry.fault }),
+        here: mark(node, &entry.here, true),
+        others: others(facts, offence, entry).iter().map(|o| mark(o.node, o.label, o.listed)).collect(),
+        mend: blanks.fill(entry.mend_for(advice.case)),
+        case: advice.case,
+        ways: advice.ways,
+        entry: in_entry.map(|entry| text(tree, entry + 1)),
     }
 }

@@ -39,6 +39,7 @@ fn of(subject: &Subject) -> Value {
         ("offences", report.map(|report| offences(report, source.as_ref())).into()),
         ("complete", report.map(|report| report.doubts().is_empty()).into()),
         ("doubts", report.map(|report| list(report.doubts().iter().map(Doubt::to_string))).into()),
+        ("checked", list(about::checked(subject).iter().map(|(_, check)| check.word))),
         ("not_checked", list(about::not_checked(subject).iter().map(|gap| gap.word))),
     ])
 }
@@ -141,9 +142,14 @@ fn offence(fault: &Fault, name: Option<&str>, source: Option<&Source>) -> Value 
         ("name", name.into()),
         ("entry", fault.entry.as_deref().into()),
         ("place", place(&fault.here, source)),
-        ("related", list(fault.others.iter().map(|mark| place(mark, source)))),
+        ("related", list(fault.related().map(|mark| related(mark, source)))),
         ("mend", fault.mend.as_str().into()),
     ])
+}
+
+/// Another place; whether it is document 01's related place, or found beside it.
+fn related(mark: &Mark, source: Option<&Source>) -> Value {
+    place(mark, source).with("listed", Some(mark.listed.into()))
 }
 
 fn place(mark: &Mark, source: Option<&Source>) -> Value {

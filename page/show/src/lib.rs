@@ -3,17 +3,22 @@
 #![deny(missing_docs)]
 
 mod about;
+mod advice;
 mod blanks;
 mod difference;
+mod edit;
 mod escape;
 mod excerpt;
+mod facts;
 mod fault;
 mod html;
 mod ink;
 mod json;
 mod looks;
+mod near;
 mod notice;
 mod numbers;
+mod others;
 mod region;
 mod sarif;
 mod sha256;
@@ -26,6 +31,7 @@ mod unread;
 
 pub use about::made_by;
 pub use difference::{Difference, Found};
+pub use edit::{Edit, Way};
 pub use fault::{Fault, Mark, faults, list_refused};
 pub use html::html;
 pub use json::{json, json_of};

@@ -65,7 +65,7 @@ fn image(subject: &Subject) -> Value {
         ("uri", escape::uri(subject.image_label()).into()),
         ("sha256", subject.image().map(sha256::hex).into()),
         ("complete", is_complete(subject).into()),
-        ("checked", list(about::checked(subject).iter().map(|check| check.word))),
+        ("checked", list(about::checked(subject).iter().map(|(_, check)| check.word))),
         ("notChecked", list(about::not_checked(subject).iter().map(|gap| gap.word))),
     ])
 }
@@ -105,7 +105,7 @@ fn results(artifact: usize, subject: &Subject) -> Vec<Value> {
 }
 
 fn result(fault: &Fault, fingerprint: Value, places: &Places) -> Value {
-    let others = fault.others.iter().enumerate().map(|(i, mark)| places.related(mark, i + 1));
+    let others = fault.related().enumerate().map(|(i, mark)| places.related(mark, i + 1));
     let related = (!fault.others.is_empty()).then(|| list(others));
     of_rule(&fault.code.to_string(), object([("text", said(fault).into())]))
         .with("locations", Some(list([places.location(&fault.here)])))
@@ -116,7 +116,7 @@ fn result(fault: &Fault, fingerprint: Value, places: &Places) -> Value {
 /// The sentence and how to mend it, with a link to each related place: `[its second use](1)`.
 fn said(fault: &Fault) -> String {
     let link = |(i, label): (usize, &str)| format!("[{}]({})", plain(label), i + 1);
-    let labels = fault.others.iter().map(|mark| if mark.label.is_empty() { "there" } else { &mark.label });
+    let labels = fault.related().map(|mark| if mark.label.is_empty() { "there" } else { &mark.label });
     let links: Vec<String> = labels.enumerate().map(link).collect();
     let see = if links.is_empty() { String::new() } else { format!(" See {}.", links.join(", ")) };
     format!("{}. Mend: {}.{see}", plain(&about::capital(&fault.sentence)), plain(&fault.mend))

@@ -83,7 +83,7 @@ fn checked(subject: &Subject, report: &Report, ink: Ink) -> String {
         text += &placed.chunk_by(Placed::on_one_line).map(|places| page.places(places)).collect::<String>();
         text += &(mend(&fault.mend, ink) + "\n");
     }
-    text + &summary(report, &faults) + words::CHECKED + "\n"
+    text + &summary(report, &faults) + &words::last_lines(faults.first().map(|fault| fault.code))
 }
 
 /// The banner and what is to be said before the faults.
@@ -182,7 +182,7 @@ impl Page<'_> {
     }
 
     fn without_excerpt(&self, mark: &Mark) -> String {
-        let Mark { node, span, label } = mark;
+        let Mark { node, span, label, .. } = mark;
         let tree = self.tree.as_ref();
         let entry = tree.and_then(|tree| Some(crate::blanks::text(tree, tree.entry_of(*node)? + 1)));
         let within = entry.map_or("outside of the entries".to_string(), |name| format!("in entry `{name}`"));

@@ -8,6 +8,7 @@ use common::{fitted, images, respanned, sample, shown, shown_source, shown_ward}
 use isonkaypu::Limit;
 
 const KEYS: &[&str] = &[
+    "checked",
     "complete",
     "doubts",
     "image",
@@ -70,7 +71,7 @@ fn an_accepted_contract() {
     assert_eq!(json.at("offences"), &Json::List(vec![]));
     let accepted: Vec<_> = json.at("verdicts").list().iter().map(|v| v.at("accepted").clone()).collect();
     assert_eq!(accepted, vec![Json::Bool(true); 3]);
-    assert_eq!(json.at("not_checked").list().len(), 2);
+    assert_eq!(json.at("not_checked").list().len(), words::gaps().len());
 }
 
 #[test]
@@ -81,7 +82,8 @@ fn no_image() {
     assert_eq!(json.at("outcome/refusal/number").number(), 1);
     assert_eq!((json.at("verdicts"), json.at("offences")), (&Json::Null, &Json::Null));
     let gaps: Vec<&str> = json.at("not_checked").list().iter().map(Json::text).collect();
-    assert_eq!(gaps, ["names", "access", "lots", "supply (conserve)", "signed authority"]);
+    assert_eq!(gaps[..5], ["names", "access", "lots", "supply (conserve)", "signed authority"]);
+    assert_eq!((gaps.len(), json.at("checked").list().len()), (3 + words::gaps().len(), 0));
 }
 
 /// A contract that has no image: the limit's own sentence, and its place.

@@ -153,10 +153,9 @@ OTHER TEXT  ward.image
 The image alone is accepted: no faults. Nothing is said of `other.quanta`, and no line of it is
 shown.
 
-Checked: names, access, lots. NOT checked: supply (conserve), signed authority
 ";
     let shown = other_text_accepted(show::text);
-    assert_eq!(shown, format!("{expected}{}\n", show::made_by()));
+    assert_eq!(shown, format!("{expected}{}{}\n", words::last_lines(None), show::made_by()));
     assert!(other_text(show::text).contains("The image alone is refused: 3 faults. "));
 }
 

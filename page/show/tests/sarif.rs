@@ -326,7 +326,17 @@ fn sources_and_spans_of_all_sorts() {
 fn related_places_are_linked() {
     let log = admitted(&shown_ward(show::sarif));
     let message = log.at("runs/0/results/2/message/text").text();
-    assert!(message.ends_with(" See [its second use](1)."), "{message}");
+    assert!(message.ends_with(" See [its second use](1), [used here](2)."), "{message}");
+    // what stands in a link is what its place is called
+    for source in words::codes().iter().map(|entry| &entry.before) {
+        let log = admitted(&shown_source(show::sarif, source));
+        for result in log.at("runs/0/results").list() {
+            for place in result.at("relatedLocations").list() {
+                let link = format!("[{}]({})", place.at("message/text").text(), place.at("id").number());
+                assert!(result.at("message/text").text().contains(&link), "{link}");
+            }
+        }
+    }
 }
 
 /// The fingerprints of a contract's results, in their order.

@@ -1,6 +1,6 @@
 //! The help page and the words of `explain`, made from the file of words.
 
-use crate::{Entry, OTHER_TEXT, Term, codes, glossary, lines, refusals, statuses};
+use crate::{CHECKS, Entry, Gap, OTHER_TEXT, Term, checks, codes, gaps, glossary, lines, refusals, statuses};
 
 /// How wide the text of `explain` is.
 const WIDTH: usize = 88;
@@ -41,12 +41,48 @@ pub fn explain_list() -> String {
     let refusals: String =
         refusals().iter().map(|e| row((format!("image {}", e.number), &e.title))).collect();
     let codes: String = codes().iter().map(|e| row((e.number.to_string(), &e.title))).collect();
-    let terms: Vec<&str> = glossary().iter().map(|t| t.word.as_str()).collect();
+    let word = |term: &'static Term| term.word.as_str();
+    let terms: Vec<&str> = glossary().iter().chain(checks()).map(word).chain(["not-checked"]).collect();
     format!(
         "Refusals of an image\n{refusals}\nFaults of a contract\n{codes}\nWords\n{}",
         wrapped(&terms.join(", "))
     )
 }
+
+/// The last lines of a report on a contract, for people: what was checked, what was not, and where to
+/// read more. The code is that of a fault to read about.
+pub fn last_lines(code: Option<u16>) -> String {
+    let words = gaps().iter().map(|gap| gap.word.as_str()).collect::<Vec<_>>().join(", ");
+    let not_checked = wrapped(&format!("NOT checked: {words}."));
+    let more = code.map_or(String::new(), |code| format!("`isonkaypu explain {code}`, "));
+    format!(
+        "Checked: {}, as far as the rules 20 to 62 go.\n{}Read more: {more}`isonkaypu explain not-checked`\n",
+        CHECKS.join(", "),
+        // the first line begins where the others are set in
+        not_checked.trim_start()
+    )
+}
+
+/// `explain not-checked`: what the checks look at, and what none of them does.
+pub fn explain_claims() -> String {
+    let checks: String = checks().iter().map(|term| format!("\n{}", explain_term(term))).collect();
+    let gap = |gap: &Gap| format!("\n{}\n{}\n{}", gap.word, wrapped(&gap.means), inset(&gap.example));
+    let gaps: String = gaps().iter().map(gap).collect();
+    format!("Checked\n{checks}\nNOT checked: {GAPS}\n{gaps}")
+}
+
+/// `explain` with a check: what it looks at.
+pub fn explain_check(check: &Term) -> String {
+    format!("The check of {}\n{}", check.word, wrapped(&check.means))
+}
+
+/// `explain` with something that no check looks at.
+pub fn explain_gap(gap: &Gap) -> String {
+    format!("NOT checked: {}\n{}\n{}", gap.word, wrapped(&gap.means), inset(&gap.example))
+}
+
+/// What is said over the list of gaps.
+const GAPS: &str = "an accepted contract can be wrong in these";
 
 /// Paragraphs, set in by two and broken between words.
 fn wrapped(text: &str) -> String {
@@ -78,7 +114,9 @@ pub fn help_page() -> String {
         HEAD.to_string(),
         section("Words", "", &terms(glossary())),
         section("The lines of a report", LINES, &terms(lines_of_numbers())),
-        section("The same for people", PEOPLE, &terms(lines_for_people())),
+        section("The same for people", PEOPLE, &people()),
+        section("Checked", CHECKED, &terms(checks())),
+        section("Not checked", NOT_CHECKED, &gaps().iter().map(gap_entry).collect::<Vec<_>>().join("\n")),
         section("Exit statuses", STATUSES, &terms(statuses())),
         section("The image: refusals", IMAGE, &entries(refusals())),
         section("Resolve: names", RESOLVE, &entries(coded(20..=40))),
@@ -92,8 +130,8 @@ const HEAD: &str = "\
 <!-- Made from page/words/words.txt by `isonkaypu help-page`. Edit that file, not this one. -->
 # Help: every line and number of a report
 
-For whoever uploads a contract and gets a report back. `isonkaypu explain 62`, `isonkaypu explain image 5` and
-`isonkaypu explain lot` print the same words.
+For whoever uploads a contract and gets a report back. `isonkaypu explain 62`, `isonkaypu explain image 5`,
+`isonkaypu explain lot` and `isonkaypu explain not-checked` print the same words.
 ";
 
 const LINES: &str = "\
@@ -103,7 +141,17 @@ const LINES: &str = "\
 
 const PEOPLE: &str = "\
 `isonkaypu check FILE` writes the same report in words; with `--source TEXT`, the text that you uploaded, it shows
-each fault in its line.
+each fault in its line. Its last lines say what was checked and what was not:
+
+";
+
+const CHECKED: &str = "\
+Three checks run, by the rules 20 to 62 below. They see to it that:
+
+";
+
+const NOT_CHECKED: &str = "\
+No rule looks at the following. An accepted contract can be wrong in each of them, and each example is accepted.
 
 ";
 
@@ -132,6 +180,11 @@ fn section(heading: &str, opening: &str, body: &str) -> String {
     format!("## {heading}\n\n{opening}{body}")
 }
 
+/// What stands at the end of a report for people, and its other lines.
+fn people() -> String {
+    format!("{}\n{}", inset(&last_lines(Some(62))), terms(lines_for_people()))
+}
+
 /// The lines of numbers come first, then those for people.
 fn lines_of_numbers() -> &'static [Term] {
     &lines()[..first_for_people()]
@@ -143,6 +196,15 @@ fn lines_for_people() -> &'static [Term] {
 
 fn first_for_people() -> usize {
     lines().iter().position(|t| t.word == OTHER_TEXT).unwrap_or(lines().len())
+}
+
+fn gap_entry(gap: &Gap) -> String {
+    format!("### {}\n\n{}.\n\n{}", gap.word, capital(&gap.means), inset(&gap.example))
+}
+
+fn capital(text: &str) -> String {
+    let mut chars = text.chars();
+    chars.next().map_or(String::new(), |first| first.to_uppercase().to_string() + chars.as_str())
 }
 
 fn coded(range: std::ops::RangeInclusive<u16>) -> &'static [Entry] {

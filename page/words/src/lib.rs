@@ -3,10 +3,14 @@
 
 #![deny(missing_docs)]
 
+mod case;
+mod find;
 mod help;
 mod read;
 
-pub use help::{explain, explain_list, explain_term, help_page};
+pub use case::Case;
+pub use find::find;
+pub use help::{explain, explain_claims, explain_list, explain_term, help_page, last_lines};
 pub use read::{Trouble, read};
 
 use std::sync::OnceLock;
@@ -25,20 +29,26 @@ pub struct Entry {
     /// The sentence of a report, with `{entry}`, `{name}` and the other `BLANKS` where the contract's
     /// names stand.
     pub fault: String,
-    /// The sentence where the offence has no related place, for the one code where that differs.
-    pub alone: String,
+    /// The sentence where a `burns` clause is one of the uses, for 62.
+    pub burned: String,
     /// What stands at the place.
     pub here: String,
     /// What stands at the related place, where the rule has one.
     pub there: String,
+    /// What stands at a further place of 62: the first use.
+    pub first: String,
+    /// The same of uses after the second.
+    pub more: String,
+    /// The same of the clause.
+    pub clause: String,
     /// What the rule looks at.
     pub means: String,
     /// Why a ward should care.
     pub matters: String,
     /// How to mend it, in one line, with blanks as in `fault`.
     pub mend: String,
-    /// The same for a lot that no `burns` clause can use up, for the one code where that differs.
-    pub kept: String,
+    /// The same for the cases of the code, in the order of `Case::of_code`.
+    pub mends: Vec<(Case, String)>,
     /// How to mend it, at length and without blanks.
     pub how: String,
     /// An example that shows it. Empty for refusals that no source can show.
@@ -47,14 +57,35 @@ pub struct Entry {
     pub after: String,
 }
 
+impl Entry {
+    /// How to mend it, in one line, for a case.
+    pub fn mend_for(&self, case: Case) -> &str {
+        self.mends.iter().find(|(of, _)| *of == case).map_or(&self.mend, |(_, mend)| mend)
+    }
+}
+
 /// A word of the language, a line of the report or an exit status, in plain words.
 #[derive(Clone, Debug, PartialEq, Eq)]
 #[non_exhaustive]
 pub struct Term {
     /// The word, the line or the status.
     pub word: String,
+    /// Other words by which `explain` finds it.
+    pub also: Vec<String>,
     /// What it means.
     pub means: String,
+}
+
+/// Something that no rule looks at.
+#[derive(Clone, Debug, PartialEq, Eq)]
+#[non_exhaustive]
+pub struct Gap {
+    /// What it is called.
+    pub word: String,
+    /// What is not looked at.
+    pub means: String,
+    /// A contract that is wrong in this, and is accepted.
+    pub example: String,
 }
 
 /// Everything that the file says, in its order.
@@ -67,6 +98,10 @@ pub struct Words {
     pub lines: Vec<Term>,
     /// The exit statuses.
     pub statuses: Vec<Term>,
+    /// The three checks.
+    pub checks: Vec<Term>,
+    /// What is not checked.
+    pub gaps: Vec<Gap>,
     /// The refusals of an image.
     pub refusals: Vec<Entry>,
     /// The codes of offences.
@@ -76,8 +111,8 @@ pub struct Words {
 /// How a report for people begins where the text that was given is not the image's.
 pub const OTHER_TEXT: &str = "OTHER TEXT";
 
-/// What every report on a contract says at its end.
-pub const CHECKED: &str = "Checked: names, access, lots. NOT checked: supply (conserve), signed authority";
+/// What people call the three checks, in the order in which they run.
+pub const CHECKS: [&str; 3] = ["names", "access", "lots"];
 
 /// The codes of document 01, in the report's order.
 pub const CODES: &[u16] =
@@ -86,14 +121,12 @@ pub const CODES: &[u16] =
 /// The refusals of document 01.
 pub const REFUSALS: &[u16] = &[1, 2, 3, 4, 5, 6, 7, 8, 9];
 
-/// The codes whose records can have a related place.
-pub const RELATED: &[u16] = &[20, 21, 23, 25, 27, 62];
+/// The codes that speak of another place: those whose records can have a related place, and those whose
+/// other declaration is found in the tree (24, 26, 28, 29, 31).
+pub const WITH_OTHERS: &[u16] = &[20, 21, 23, 24, 25, 26, 27, 28, 29, 31, 62];
 
-/// The one of these whose records can also have none.
-pub const MAY_STAND_ALONE: u16 = 62;
-
-/// The code that a `burns` clause can mend, for some lots.
-pub const MAY_BE_BURNED: u16 = 61;
+/// The code whose other places are uses of a lot.
+pub const USES: u16 = 62;
 
 /// The blanks that a sentence may have: what the contract's names are filled in for.
 pub const BLANKS: &[&str] = &[
@@ -109,6 +142,19 @@ pub const BLANKS: &[&str] = &[
     "given",
     "declared",
     "writes",
+    // those of a case
+    "near",
+    "fresh",
+    "taken",
+    "declare",
+    "event",
+    "asset",
+    "owner",
+    "stored",
+    "base",
+    "wrong",
+    "to",
+    "second",
 ];
 
 fn words() -> &'static Words {
@@ -142,14 +188,19 @@ pub fn glossary() -> &'static [Term] {
     &words().glossary
 }
 
-/// The explanation of a word.
-pub fn term(word: &str) -> Option<&'static Term> {
-    glossary().iter().find(|t| t.word == word)
-}
-
 /// The lines of a report.
 pub fn lines() -> &'static [Term] {
     &words().lines
+}
+
+/// What each check looks at, in the order of `CHECKS`.
+pub fn checks() -> &'static [Term] {
+    &words().checks
+}
+
+/// What no check looks at.
+pub fn gaps() -> &'static [Gap] {
+    &words().gaps
 }
 
 /// The exit statuses of the programs.

@@ -1,7 +1,7 @@
 //! The reader of the file of words. It is strict: what it does not know, what is missing and what
 //! stands twice is trouble, with the line where it stands.
 
-use crate::{BLANKS, CODES, Entry, MAY_BE_BURNED, MAY_STAND_ALONE, REFUSALS, RELATED, Term, Words};
+use crate::{BLANKS, CHECKS, CODES, Case, Entry, Gap, REFUSALS, Term, USES, WITH_OTHERS, Words};
 use std::fmt;
 
 /// What is wrong with a file of words, and in which line.
@@ -48,20 +48,21 @@ pub fn read(text: &str) -> Result<Words, Trouble> {
     for section in &sections {
         add(&mut words, section)?;
     }
-    all_there(CODES, &words.codes, "code")?;
-    all_there(REFUSALS, &words.refusals, "image")?;
+    all_there(CODES, words.codes.iter().map(|e| e.number), "code")?;
+    all_there(REFUSALS, words.refusals.iter().map(|e| e.number), "image")?;
+    all_there(&CHECKS, words.checks.iter().map(|t| t.word.as_str()), "checked")?;
     Ok(words)
 }
 
-/// Each number has its entry, in the given order.
-fn all_there(numbers: &[u16], entries: &[Entry], kind: &str) -> Result<(), Trouble> {
-    let have: Vec<u16> = entries.iter().map(|e| e.number).collect();
-    match numbers
-        .iter()
-        .zip(have.iter().map(Some).chain(std::iter::repeat(None)))
-        .find(|(n, h)| Some(*n) != *h)
-    {
-        Some((number, _)) => trouble(0, format!("[{kind} {number}] is missing, or not in its place")),
+/// Each of them has its entry, in the given order.
+fn all_there<T: PartialEq + Copy + fmt::Display>(
+    all: &[T],
+    have: impl Iterator<Item = T>,
+    kind: &str,
+) -> Result<(), Trouble> {
+    let have = have.map(Some).chain(std::iter::repeat(None));
+    match all.iter().zip(have).find(|(one, have)| Some(**one) != *have) {
+        Some((one, _)) => trouble(0, format!("[{kind} {one}] is missing, or not in its place")),
         None => Ok(()),
     }
 }
@@ -103,7 +104,8 @@ fn section_line<'a>(section: &mut Section<'a>, at: usize, line: &'a str) -> Resu
 
 fn field(at: usize, line: &str) -> Result<Field<'_>, Trouble> {
     match line.split_once(':') {
-        Some((name, rest)) if !name.contains(' ') => {
+        // a name, or a name and its case: `mend near`
+        Some((name, rest)) if name.split(' ').all(|w| !w.is_empty()) && name.split(' ').count() <= 2 => {
             let first = rest.trim();
             Ok(Field { line: at, name, text: if first.is_empty() { vec![] } else { vec![first] } })
         }
@@ -116,6 +118,8 @@ fn add(words: &mut Words, section: &Section) -> Result<(), Trouble> {
         "term" => words.glossary.push(term(section, &words.glossary)?),
         "line" => words.lines.push(term(section, &words.lines)?),
         "status" => words.statuses.push(term(section, &words.statuses)?),
+        "checked" => words.checks.push(check(section, &words.checks)?),
+        "gap" => words.gaps.push(gap(section, &words.gaps)?),
         "image" => words.refusals.push(entry(section, REFUSALS, &words.refusals)?),
         "code" => words.codes.push(entry(section, CODES, &words.codes)?),
         other => return trouble(section.line, format!("`{other}` is no kind of entry")),
@@ -124,16 +128,39 @@ fn add(words: &mut Words, section: &Section) -> Result<(), Trouble> {
 }
 
 fn term(section: &Section, before: &[Term]) -> Result<Term, Trouble> {
-    if before.iter().any(|t| t.word == section.of) {
-        return trouble(section.line, format!("`{}` stands twice", section.of));
+    let also = find(section, "also")?.map(value).unwrap_or_default();
+    let also: Vec<String> = also.split(',').map(|w| w.trim().to_string()).filter(|w| !w.is_empty()).collect();
+    let has = |term: &Term, word: &str| term.word == word || term.also.iter().any(|w| w == word);
+    let words = std::iter::once(section.of).chain(also.iter().map(String::as_str));
+    for word in words {
+        if before.iter().any(|t| has(t, word)) {
+            return trouble(section.line, format!("`{word}` stands twice"));
+        }
     }
-    only(section, &["means"])?;
-    Ok(Term { word: section.of.to_string(), means: needed(section, "means")? })
+    only(section, &["also", "means"])?;
+    Ok(Term { word: section.of.to_string(), also, means: needed(section, "means")? })
 }
 
-/// The fields of a code. A refusal has no place, so it has none of `alone`, `here`, `there`, `kept`.
+fn check(section: &Section, before: &[Term]) -> Result<Term, Trouble> {
+    if !CHECKS.contains(&section.of) {
+        return trouble(section.line, format!("`{}` is no check", section.of));
+    }
+    term(section, before)
+}
+
+fn gap(section: &Section, before: &[Gap]) -> Result<Gap, Trouble> {
+    if before.iter().any(|g| g.word == section.of) {
+        return trouble(section.line, format!("`{}` stands twice", section.of));
+    }
+    only(section, &["means", "example"])?;
+    let [means, example] = [needed(section, "means")?, needed(section, "example")?];
+    Ok(Gap { word: section.of.to_string(), means, example })
+}
+
+/// The fields of a code, beside its cases. A refusal has no place, so it has none of those of places.
 const FIELDS: &[&str] = &[
-    "title", "fault", "alone", "here", "there", "means", "matters", "mend", "kept", "how", "before", "after",
+    "title", "fault", "burned", "here", "there", "first", "more", "clause", "means", "matters", "mend",
+    "how", "before", "after",
 ];
 
 fn entry(section: &Section, numbers: &[u16], before: &[Entry]) -> Result<Entry, Trouble> {
@@ -143,7 +170,8 @@ fn entry(section: &Section, numbers: &[u16], before: &[Entry]) -> Result<Entry, 
     if before.iter().any(|e| e.number == number) {
         return trouble(section.line, format!("`{} {number}` stands twice", section.kind));
     }
-    only(section, FIELDS)?;
+    let cases = Case::of_code(number).iter().map(|case| case.field());
+    only(section, &FIELDS.iter().copied().chain(cases).collect::<Vec<_>>())?;
     let entry = Entry { number, ..placed(section, number)? };
     blanks_known(section)?;
     Ok(entry)
@@ -153,24 +181,34 @@ fn entry(section: &Section, numbers: &[u16], before: &[Entry]) -> Result<Entry, 
 /// place, an example.
 fn placed(section: &Section, number: u16) -> Result<Entry, Trouble> {
     let code = section.kind == "code";
-    let related = code && RELATED.contains(&number);
+    let others = code && WITH_OTHERS.contains(&number);
+    let uses = code && number == USES;
     let where_true = |there: bool, name| if there { needed(section, name) } else { absent(section, name) };
     let example = code || find(section, "before")?.is_some();
     Ok(Entry {
         number,
         title: needed(section, "title")?,
         fault: needed(section, "fault")?,
-        alone: where_true(code && number == MAY_STAND_ALONE, "alone")?,
+        burned: where_true(uses, "burned")?,
         here: where_true(code, "here")?,
-        there: where_true(related, "there")?,
+        there: where_true(others, "there")?,
+        first: where_true(uses, "first")?,
+        more: where_true(uses, "more")?,
+        clause: where_true(uses, "clause")?,
         means: needed(section, "means")?,
         matters: needed(section, "matters")?,
         mend: needed(section, "mend")?,
-        kept: where_true(code && number == MAY_BE_BURNED, "kept")?,
+        mends: mends(section, number)?,
         how: needed(section, "how")?,
         before: where_true(example, "before")?,
         after: where_true(example, "after")?,
     })
+}
+
+/// A `mend` for each case of the code.
+fn mends(section: &Section, number: u16) -> Result<Vec<(Case, String)>, Trouble> {
+    let mend = |case: &Case| Ok((*case, needed(section, case.field())?));
+    Case::of_code(number).iter().map(mend).collect()
 }
 
 fn only(section: &Section, known: &[&str]) -> Result<(), Trouble> {
@@ -209,7 +247,7 @@ fn absent(section: &Section, name: &str) -> Result<String, Trouble> {
 fn value(field: &Field) -> String {
     let lines = field.text.iter().map(|l| l.trim_end());
     let text = match field.name {
-        "before" | "after" => lines.collect::<Vec<_>>().join("\n"),
+        "before" | "after" | "example" => lines.collect::<Vec<_>>().join("\n"),
         _ => lines
             .map(|l| if l.is_empty() { "\n" } else { l })
             .collect::<Vec<_>>()
@@ -222,8 +260,9 @@ fn value(field: &Field) -> String {
 /// Blanks stand in the sentences of codes only, and each is known.
 fn blanks_known(section: &Section) -> Result<(), Trouble> {
     for field in section.fields.iter().filter(|f| !matches!(f.name, "before" | "after")) {
-        let may = section.kind == "code"
-            && matches!(field.name, "fault" | "alone" | "here" | "there" | "mend" | "kept");
+        let sentence =
+            matches!(field.name, "fault" | "burned" | "here" | "there" | "first" | "more" | "clause");
+        let may = section.kind == "code" && (sentence || field.name.starts_with("mend"));
         if let Some(blank) = blanks(&value(field)).into_iter().find(|b| !may || !BLANKS.contains(b)) {
             return trouble(field.line, format!("`{{{blank}}}` is no blank of `{}:`", field.name));
         }

@@ -16,6 +16,16 @@ fn each_code_has_its_example() {
     }
 }
 
+/// What is said to be unchecked is: a rule that sees one of these has closed the gap, and the gap's entry
+/// goes.
+#[test]
+fn each_gap_is_accepted() {
+    for gap in words::gaps() {
+        assert_eq!(codes(&gap.example), [], "`{}` is no gap any more:\n{}", gap.word, gap.example);
+    }
+    assert!(words::gaps().len() >= 13);
+}
+
 #[test]
 fn a_refusal_has_its_example() {
     let with_example: Vec<_> = words::refusals().iter().filter(|e| !e.before.is_empty()).collect();

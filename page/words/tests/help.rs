@@ -16,9 +16,27 @@ fn the_page_has_every_number_and_word() {
         assert!(page.contains(&entry.title) && page.contains(&entry.how), "{}", entry.number);
     }
     assert!(glossary().iter().all(|term| page.contains(&format!("- **{}**: ", term.word))));
+    for gap in words::gaps() {
+        assert!(
+            page.contains(&format!("### {}\n", gap.word)) && page.contains(&gap.means[1..]),
+            "{}",
+            gap.word
+        );
+    }
+    assert!(words::checks().iter().all(|check| page.contains(&check.means)));
     assert!(
         page.contains("`image 8`") && page.contains("`list refused 9`") && !page.contains("### `image 9`")
     );
+}
+
+/// The last lines of a report name each check and each gap, and stay short.
+#[test]
+fn the_last_lines_name_every_gap() {
+    let lines = words::last_lines(Some(62)).replace("\n  ", " ");
+    assert!(words::gaps().iter().all(|gap| lines.contains(&gap.word)), "{lines}");
+    assert!(words::CHECKS.iter().all(|check| lines.contains(check)), "{lines}");
+    assert!(lines.contains("`isonkaypu explain 62`") && lines.contains("`isonkaypu explain not-checked`"));
+    assert!(words::last_lines(None).lines().all(|line| line.len() <= 90) && lines.lines().count() == 3);
 }
 
 #[test]
@@ -33,4 +51,36 @@ fn explain_says_all_of_an_entry() {
     }
     let widest = codes().iter().flat_map(|e| explain(e).lines().map(str::len).collect::<Vec<_>>()).max();
     assert!(widest <= Some(90), "{widest:?}");
+}
+
+/// Whatever a report or the list of `explain` names is found: codes, refusal 9, clauses, checks, gaps.
+#[test]
+fn explain_finds_what_is_asked_for() {
+    let begins = |asked: &str, with: &str| {
+        let found = words::find(&asked.split(' ').collect::<Vec<_>>());
+        assert!(found.as_ref().is_some_and(|text| text.starts_with(with)), "{asked}: {found:?}");
+    };
+    for clause in ["writes", "reads", "conserves", "mints", "burns", "limits", "denies", "after"] {
+        begins(clause, &format!("{clause}\n  A clause "));
+    }
+    begins("9", "list refused 9: ");
+    begins("list refused 9", "list refused 9: ");
+    for (pass, check) in [("resolve", "names"), ("access", "access"), ("linear", "lots")] {
+        begins(pass, &format!("The check of {check}\n"));
+        begins(check, &format!("The check of {check}\n"));
+    }
+    begins("not-checked", "Checked\n");
+    begins("not checked", "Checked\n");
+    begins("Q_Asset", "lot\n");
+    for gap in words::gaps() {
+        begins(&gap.word, &format!("NOT checked: {}\n", gap.word));
+        assert!(words::explain_claims().contains(&gap.word));
+    }
+    let listed = explain_list().split("Words\n").nth(1).expect("words").replace('\n', " ");
+    for word in listed.split(',').map(str::trim) {
+        assert!(words::find(&word.split_whitespace().collect::<Vec<_>>()).is_some(), "{word}");
+    }
+    for unknown in ["63", "5", "image 10", "box", "0"] {
+        assert_eq!(words::find(&unknown.split(' ').collect::<Vec<_>>()), None, "{unknown}");
+    }
 }

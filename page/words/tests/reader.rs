@@ -17,7 +17,11 @@ fn the_shipped_file_is_whole() {
         assert!(words.glossary.iter().any(|t| t.word == word), "no `{word}` in the glossary");
     }
     assert_eq!((words.lines.len(), words.statuses.len()), (9, 4));
-    assert_eq!(words.lines.last().map(|t| t.word.as_str()), Some(words::CHECKED));
+    assert_eq!(words.lines[7].word, words::OTHER_TEXT);
+    assert_eq!(words.checks.iter().map(|t| t.word.as_str()).collect::<Vec<_>>(), words::CHECKS);
+    for word in ["supply (conserve)", "signed authority", "amounts", "undeclared names", "undeclared types"] {
+        assert!(words.gaps.iter().any(|g| g.word == word), "no gap `{word}`");
+    }
 }
 
 #[test]
@@ -39,6 +43,23 @@ fn missing() {
     );
 }
 
+/// What is checked and what is not: each with its words, each gap with its example.
+#[test]
+fn claims() {
+    assert_eq!(trouble("[checked access]", "[checked acces]"), "`acces` is no check");
+    assert_eq!(trouble("[checked access]", "[checked names]"), "`names` stands twice");
+    let [from, to] = ["[checked access]", "[checked lots]"].map(|head| WORDS.find(head).expect("a head"));
+    let without = format!("{}{}", &WORDS[..from], &WORDS[to..]);
+    let missing = Err("[checked access] is missing, or not in its place".to_string());
+    assert_eq!(read(&without).map_err(|t| t.what), missing);
+    assert_eq!(trouble("[gap amounts]", "[gap signed authority]"), "`signed authority` stands twice");
+    assert_eq!(trouble("[gap amounts]", "[gap amounts]\nmends: x"), "`mends:` is no field of this entry");
+    let [from, to] = ["[gap amounts]", "[gap conditions]"].map(|head| WORDS.find(head).expect("a head"));
+    let without = format!("{}[gap amounts]\nmeans: amounts\n{}", &WORDS[..from], &WORDS[to..]);
+    let missing = Err("`example:` is missing in [gap amounts]".to_string());
+    assert_eq!(read(&without).map_err(|t| t.what), missing);
+}
+
 #[test]
 fn doubled() {
     let title = "title: a lot is never used\n";
@@ -46,6 +67,7 @@ fn doubled() {
     assert_eq!(trouble("[code 61]", "[code 60]"), "`code 60` stands twice");
     assert_eq!(trouble("[image 4]", "[image 3]"), "`image 3` stands twice");
     assert_eq!(trouble("[term state]", "[term contract]"), "`contract` stands twice");
+    assert_eq!(trouble("also: linear", "also: resolve"), "`resolve` stands twice");
 }
 
 #[test]
@@ -66,7 +88,7 @@ fn unknown() {
 fn misplaced() {
     let here = "here: emitted here\n";
     assert_eq!(trouble(here, &format!("{here}there: elsewhere\n")), "`there:` does not belong here");
-    assert_eq!(trouble(here, &format!("{here}kept: as it is\n")), "`kept:` does not belong here");
+    assert_eq!(trouble(here, &format!("{here}burned: as it is\n")), "`burned:` does not belong here");
     assert_eq!(trouble("[term contract]", "contract\n[term contract]"), "words before the first `[...]`");
     assert_eq!(trouble("[term contract]", "[contract]"), "a head is `[kind of]`, such as `[code 51]`");
     assert_eq!(
@@ -75,6 +97,27 @@ fn misplaced() {
     );
     let no_field = "neither a field, `name: words`, nor set in by two spaces";
     assert_eq!(trouble("  the contract. Tell", " the contract. Tell"), no_field);
+}
+
+/// Each case of a code has its `mend`, and no code has another's.
+#[test]
+fn cases() {
+    let near = WORDS.lines().find(|line| line.starts_with("mend near: ")).expect("a case").to_string() + "\n";
+    assert_eq!(trouble(&near, ""), "`mend near:` is missing in [code 30]");
+    assert_eq!(trouble(&near, "mend near:\n"), "`mend near:` is missing in [code 30]");
+    assert_eq!(trouble(&near, &near.repeat(2)), "`mend near:` stands twice in this entry");
+    let unknown = format!("{near}mend far: elsewhere\n");
+    assert_eq!(trouble(&near, &unknown), "`mend far:` is no field of this entry");
+    let of_another = format!("{near}mend qtov: take it out\n");
+    assert_eq!(trouble(&near, &of_another), "`mend qtov:` is no field of this entry");
+    assert_eq!(
+        trouble("did you mean `{near}`? Then", "did you mean `{far}`? Then"),
+        "`{far}` is no blank of `mend near:`"
+    );
+    for code in words::codes() {
+        let cases: Vec<_> = code.mends.iter().map(|(case, _)| *case).collect();
+        assert_eq!(cases, words::Case::of_code(code.number), "{}", code.number);
+    }
 }
 
 #[test]

@@ -3,7 +3,7 @@
 use super::excerpt::excerpt;
 use super::prose;
 use super::view::{Item, View};
-use crate::about::{self, Check, Gap};
+use crate::about::{self, Claim};
 use crate::fault::counted;
 use crate::notice::{self, OtherText};
 use crate::region::Region;
@@ -44,8 +44,8 @@ fn answer(view: &View) -> Answer {
             class: "accepted",
             title,
             drawing: "M5 13l5 5L20 7",
-            html: "<p>No fault was found. Names, access and lots are in order.</p>\
-                   <p>Some things are <a href=\"#not-checked\">not checked</a> here.</p>"
+            html: "<p>No fault was found by the rules that are <a href=\"#checked\">checked</a> here.</p>\
+                   <p>It can still be wrong in what is <a href=\"#not-checked\">not checked</a>.</p>"
                 .to_string(),
         },
         Outcome::Checked(report) => Answer {
@@ -170,7 +170,7 @@ pub fn section(view: &View) -> String {
 /// What was checked, with the number of faults of each check; nothing where no check ran.
 pub fn checked(view: &View) -> String {
     let count = |pass: Pass| view.items().filter(|item| item.fault.pass == pass).count();
-    let row = |check: &Check| check_row(check, count(check.pass));
+    let row = |(pass, check): &(Pass, Claim)| check_row(check, count(*pass));
     let rows: String = about::checked(view.subject).iter().map(row).collect();
     if rows.is_empty() {
         return rows;
@@ -185,7 +185,7 @@ pub fn checked(view: &View) -> String {
     )
 }
 
-fn check_row(check: &Check, count: usize) -> String {
+fn check_row(check: &Claim, count: usize) -> String {
     let (class, result) = match count {
         0 => ("fine", "no fault".to_string()),
         _ => ("faulty", counted(count)),
@@ -193,13 +193,13 @@ fn check_row(check: &Check, count: usize) -> String {
     format!(
         "<li class=\"{class}\"><strong>{}: {result}</strong> <span>{}</span></li>",
         prose::sentence(check.word),
-        prose::sentence(check.looks_at)
+        prose::sentence(check.means)
     )
 }
 
 /// What nobody may take for checked.
 pub fn not_checked(view: &View) -> String {
-    let row = |gap: &Gap| {
+    let row = |gap: &Claim| {
         format!(
             "<li><strong>{}</strong> <span>{}</span></li>",
             prose::sentence(gap.word),
@@ -209,6 +209,6 @@ pub fn not_checked(view: &View) -> String {
     let rows: String = about::not_checked(view.subject).iter().map(row).collect();
     format!(
         "<section class=\"box open\" aria-labelledby=\"not-checked\"><h2 id=\"not-checked\">Not checked</h2>\
-         <p>This report says nothing about:</p><ul class=\"checks\">{rows}</ul></section>\n"
+         <p>No rule looks at these, and an accepted contract can be wrong in them:</p><ul class=\"checks\">{rows}</ul></section>\n"
     )
 }

@@ -76,12 +76,17 @@ fn card(view: &View, item: &Item) -> String {
         row("Related place", &others(view, item)),
         part("What it means", said(|words| &words.means)),
         part("Why it matters", said(|words| &words.matters)),
-        row("How to mend it", &format!("<p class=\"mend\">{}</p>", prose::sentence(&fault.mend))),
+        row("How to mend it", &mend(&fault.mend, said(|words| &words.how))),
         words.filter(|_| item.first).map_or(String::new(), example),
         prose::sentence(about::word(fault.pass)),
         prose::line(&fault.title),
         fault.code,
     )
+}
+
+/// The line for this contract, and what is to be said of the code at length.
+fn mend(line: &str, how: &str) -> String {
+    format!("<p class=\"mend\">{}</p>{}", prose::sentence(line), prose::paragraphs(how))
 }
 
 fn row(title: &str, html: &str) -> String {

@@ -68,9 +68,11 @@ fn name_of(tree: &Tree, node: usize) -> String {
     String::from_utf8_lossy(name).into_owned()
 }
 
-/// The numbers as the image has them.
+/// The numbers as the image has them, and whether document 01's list has the place.
 fn numbers(mark: &Mark) -> Value {
-    object([("node", mark.node.into()), ("from", mark.span.start.into()), ("to", mark.span.end.into())])
+    let Span { start, end } = mark.span;
+    object([("node", mark.node.into()), ("from", start.into()), ("to", end.into())])
+        .with("listed", Some(mark.listed.into()))
 }
 
 fn of_region(region: &Region) -> Value {

@@ -10,8 +10,11 @@ use show::Subject;
 use std::path::Path;
 
 pub mod chance;
+pub mod contracts;
+pub mod follow;
 pub mod json;
 pub mod pages;
+pub mod random;
 pub mod tags;
 
 /// A file of `samples/`.

@@ -1,0 +1,259 @@
+//! What a contract declares and does, found in its tree: what advice and other places are made from.
+//! Nothing here judges; the library has judged.
+
+use form::{Tree, kind};
+
+/// The tree of a contract, asked for what stands in it.
+#[derive(Clone, Copy)]
+pub struct Facts<'t> {
+    pub tree: &'t Tree<'t>,
+}
+
+/// Something that the linear check watches: document 01's tracked rows.
+pub struct Row {
+    pub name: String,
+    /// A parameter's Name, or a Let.
+    pub place: usize,
+}
+
+/// Methods that change what they are called on.
+const CHANGING: &[&str] = &["merge", "split", "credit", "debit", "insert", "remove", "set"];
+/// Methods whose arguments are not used up.
+const READING: &[&str] = &["get", "contains", "has"];
+
+impl<'t> Facts<'t> {
+    pub fn text(&self, node: usize) -> String {
+        String::from_utf8_lossy(self.tree.text(node)).into_owned()
+    }
+
+    /// Whether a node carries this text.
+    pub fn is(&self, node: usize, text: &str) -> bool {
+        self.tree.text(node) == text.as_bytes()
+    }
+
+    pub fn above(&self, node: usize) -> Option<usize> {
+        self.tree.above(node).next()
+    }
+
+    pub fn items(&self, kind: u8) -> impl Iterator<Item = usize> + use<'t> {
+        let tree = self.tree;
+        tree.children(0).filter(move |item| tree.kind(*item) == kind)
+    }
+
+    /// The children of a node that are of this kind.
+    pub fn parts(&self, node: usize, kind: u8) -> impl Iterator<Item = usize> + use<'t> {
+        let tree = self.tree;
+        tree.children(node).filter(move |part| tree.kind(*part) == kind)
+    }
+
+    /// The FieldDecls of all State blocks.
+    pub fn fields(&self) -> impl Iterator<Item = usize> + use<'t> {
+        let tree = self.tree;
+        self.items(kind::STATE).flat_map(move |state| tree.children(state))
+    }
+
+    /// The last declaration of a state field.
+    pub fn field(&self, name: &str) -> Option<usize> {
+        self.fields().filter(|field| self.is(field + 1, name)).last()
+    }
+
+    /// The last declaration of an event.
+    pub fn event(&self, name: &str) -> Option<usize> {
+        self.items(kind::EVENT).filter(|event| self.is(event + 1, name)).last()
+    }
+
+    /// How many values an Event or an Emit has: all children but the Name.
+    pub fn values(&self, node: usize) -> usize {
+        self.tree.children(node).skip(1).count()
+    }
+
+    /// The Emits of entries and genesis.
+    pub fn emits(&self) -> impl Iterator<Item = usize> + use<'t> {
+        let facts = *self;
+        let bodies = self.items(kind::ENTRY).chain(self.items(kind::GENESIS));
+        bodies.flat_map(move |body| facts.parts(body, kind::EMIT))
+    }
+
+    /// The parameter or the Let of an entry that has this name, where one has.
+    pub fn named_in(&self, entry: usize, name: &str) -> Option<usize> {
+        let parts = self.parts(entry, kind::PARAM).chain(self.parts(entry, kind::LET));
+        parts.into_iter().find(|part| self.is(part + 1, name))
+    }
+
+    /// How many parameters and Lets of an entry have this name.
+    pub fn namesakes(&self, entry: usize, name: &str) -> usize {
+        let parts = self.parts(entry, kind::PARAM).chain(self.parts(entry, kind::LET));
+        parts.filter(|part| self.is(part + 1, name)).count()
+    }
+
+    /// The Type of a FieldDecl or a Param.
+    fn type_of(&self, declared: usize) -> usize {
+        self.tree.end(declared + 1)
+    }
+
+    /// Whether a FieldDecl or a Param is of a type of this name.
+    pub fn is_of_type(&self, declared: usize, name: &str) -> bool {
+        self.is(self.type_of(declared) + 1, name)
+    }
+
+    /// The Name of the asset of a FieldDecl or a Param that is a lot.
+    pub fn asset_of(&self, declared: usize) -> Option<usize> {
+        let ty = self.type_of(declared);
+        self.is_of_type(declared, "Q_Asset").then(|| self.first_type(ty)).flatten()
+    }
+
+    fn first_type(&self, ty: usize) -> Option<usize> {
+        self.tree.children(ty).nth(1).filter(|first| self.tree.kind(*first) == kind::TYPE).map(|t| t + 1)
+    }
+
+    /// Document 01: "Known assets", in the order in which they stand.
+    pub fn known_assets(&self) -> Vec<String> {
+        let declared = self.items(kind::ASSET).map(|asset| self.text(asset + 1));
+        let params = self.items(kind::ENTRY).flat_map(|entry| self.parts(entry, kind::PARAM));
+        let types = self.fields().chain(params).map(|declared| self.type_of(declared));
+        let inside = types.flat_map(|ty| ty..self.tree.end(ty));
+        let lots = inside.filter(|t| self.tree.kind(*t) == kind::TYPE && self.is(t + 1, "Q_Asset"));
+        let named = lots.filter_map(|t| self.first_type(t)).map(|name| self.text(name));
+        declared.chain(named).chain(["QTOV".to_string()]).collect()
+    }
+
+    /// Checked and Wrapping taken off the outside.
+    pub fn peeled(&self, mut node: usize) -> usize {
+        while matches!(self.tree.kind(node), kind::CHECKED | kind::WRAPPING) {
+            node += 1;
+        }
+        node
+    }
+
+    /// The bottom of a chain of Field bases, peeled at each step.
+    pub fn bottom(&self, mut node: usize) -> usize {
+        while matches!(self.tree.kind(node), kind::FIELD | kind::CHECKED | kind::WRAPPING) {
+            node += 1;
+        }
+        node
+    }
+
+    /// The method of a Call, with its base.
+    pub fn method(&self, call: usize) -> Option<(usize, usize)> {
+        let callee = call + 1;
+        let field = self.tree.kind(callee) == kind::FIELD;
+        field.then(|| (callee + 1, self.tree.end(callee + 1)))
+    }
+
+    /// The statement of an entry or of genesis that a node stands in.
+    pub fn statement_of(&self, node: usize) -> Option<usize> {
+        let mut above = std::iter::once(node).chain(self.tree.above(node));
+        above.find(|part| kind::is_statement(self.tree.kind(*part)))
+    }
+
+    /// The name that a node of a statement changes: an Assign's root, or the base root of a Call with a
+    /// method that changes.
+    pub fn changed(&self, node: usize) -> Option<usize> {
+        let root = match self.tree.kind(node) {
+            kind::ASSIGN => node + 1,
+            kind::CALL => self.method(node).filter(|(_, name)| self.is_any(*name, CHANGING))?.0,
+            _ => return None,
+        };
+        Some(self.bottom(root)).filter(|bottom| self.tree.kind(*bottom) == kind::IDENT)
+    }
+
+    fn is_any(&self, node: usize, texts: &[&str]) -> bool {
+        texts.iter().any(|text| self.is(node, text))
+    }
+
+    pub fn is_changing(method: &str) -> bool {
+        CHANGING.contains(&method)
+    }
+
+    pub fn is_reading(method: &str) -> bool {
+        READING.contains(&method)
+    }
+
+    /// The nodes of an entry's statements.
+    pub fn body(&self, entry: usize) -> std::ops::Range<usize> {
+        let mut statements = self.tree.children(entry).filter(|s| kind::is_statement(self.tree.kind(*s)));
+        let end = self.tree.end(entry);
+        statements.next().unwrap_or(end)..end
+    }
+
+    /// Document 01: "Tracked, in order".
+    pub fn rows(&self, entry: usize) -> Vec<Row> {
+        let lots = self.parts(entry, kind::PARAM).filter(|param| self.is_of_type(*param, "Q_Asset"));
+        let lots = lots.map(|param| Row { name: self.text(param + 1), place: param + 1 });
+        let lets = self.parts(entry, kind::LET).filter(|one| self.makes_a_lot(*one));
+        lots.chain(lets.map(|one| Row { name: self.text(one + 1), place: one })).collect()
+    }
+
+    fn makes_a_lot(&self, one: usize) -> bool {
+        let call = self.peeled(one + 2);
+        let split = self.method(call).is_some_and(|(_, name)| self.is(name, "split"));
+        let mint = self.tree.kind(call + 1) == kind::IDENT && self.is(call + 1, "mint");
+        self.tree.kind(call) == kind::CALL && (split || mint)
+    }
+
+    /// Document 01: "Counted occurrences", in preorder.
+    pub fn uses(&self, entry: usize) -> Vec<usize> {
+        self.uses_in(self.body(entry))
+    }
+
+    /// The counted occurrences among these nodes.
+    pub fn uses_in(&self, nodes: std::ops::Range<usize>) -> Vec<usize> {
+        let mut uses: Vec<usize> = nodes.flat_map(|node| self.uses_at(node)).collect();
+        uses.sort_unstable();
+        uses
+    }
+
+    /// What an Assign or a Call uses up itself.
+    fn uses_at(&self, node: usize) -> Vec<usize> {
+        let is_ident = |node: &usize| self.tree.kind(*node) == kind::IDENT;
+        match self.tree.kind(node) {
+            kind::ASSIGN => self.tree.children(node).skip(1).filter(is_ident).collect(),
+            kind::CALL if self.method(node).is_some_and(|(_, name)| self.is_any(name, READING)) => vec![],
+            kind::CALL => self.tree.children(node).skip(1).map(|a| self.peeled(a)).filter(is_ident).collect(),
+            _ => vec![],
+        }
+    }
+
+    /// The uses that count for the row at a place: those of its name, where it is the last of its name.
+    pub fn uses_of(&self, entry: usize, place: usize) -> Vec<usize> {
+        let rows = self.rows(entry);
+        let Some(row) = rows.iter().find(|row| row.place == place) else {
+            return vec![];
+        };
+        let last = rows.iter().rfind(|other| other.name == row.name).is_some_and(|last| last.place == place);
+        let uses = self.uses(entry).into_iter().filter(|_| last);
+        uses.filter(|one| self.is(*one, &row.name)).collect()
+    }
+
+    /// The Name in a Burns clause that marks the row at a place: document 01's burn mark.
+    pub fn burned_by(&self, entry: usize, place: usize) -> Option<usize> {
+        let rows = self.rows(entry);
+        let row = rows.iter().find(|row| row.place == place)?;
+        let first = rows.iter().find(|other| other.name == row.name)?;
+        let named = self.parts(entry, kind::PARAM).filter(|param| self.is(param + 1, &row.name));
+        let mut clauses = named.filter_map(|p| self.asset_of(p)).filter_map(|a| self.burns(entry, a));
+        if first.place == place { clauses.next() } else { None }
+    }
+
+    /// The Name in a Burns clause of the entry that is this asset's.
+    pub fn burns(&self, entry: usize, asset: usize) -> Option<usize> {
+        let mut named = self.parts(entry, kind::BURNS).map(|clause| clause + 1);
+        named.find(|name| self.tree.text(*name) == self.tree.text(asset))
+    }
+
+    /// Whether a text stands anywhere in the contract.
+    fn is_text(&self, text: &str) -> bool {
+        self.tree.all().any(|node| self.is(node, text))
+    }
+
+    /// A name like this one that nothing in the contract has.
+    pub fn fresh(&self, name: &str) -> String {
+        let numbered = (2..).map(|n| format!("{name}_{n}"));
+        numbered.into_iter().find(|one| !self.is_text(one)).unwrap_or_default()
+    }
+
+    /// This name, or one like it where something in the contract has it.
+    pub fn fresh_or(&self, name: &str) -> String {
+        if self.is_text(name) { self.fresh(name) } else { name.to_string() }
+    }
+}
