@@ -1,6 +1,7 @@
 //! What a contract declares and does, found in its tree: what advice and other places are made from.
 //! Nothing here judges; the library has judged.
 
+use form::image::MAX_NAME;
 use form::{Tree, kind};
 
 /// The tree of a contract, asked for what stands in it.
@@ -16,6 +17,8 @@ pub struct Row {
     pub place: usize,
 }
 
+/// What a number behind a name takes at most.
+const ROOM: usize = 8;
 /// Methods that change what they are called on.
 const CHANGING: &[&str] = &["merge", "split", "credit", "debit", "insert", "remove", "set"];
 /// Methods whose arguments are not used up.
@@ -246,9 +249,10 @@ impl<'t> Facts<'t> {
         self.tree.all().any(|node| self.is(node, text))
     }
 
-    /// A name like this one that nothing in the contract has.
+    /// A name like this one that nothing in the contract has, short enough for an image.
     pub fn fresh(&self, name: &str) -> String {
-        let numbered = (2..).map(|n| format!("{name}_{n}"));
+        let short: String = name.chars().take(MAX_NAME - ROOM).collect();
+        let numbered = (2..).map(|n| format!("{short}_{n}"));
         numbered.into_iter().find(|one| !self.is_text(one)).unwrap_or_default()
     }
 

@@ -178,6 +178,19 @@ fn the_sentence_names_what_the_way_writes() {
     }
 }
 
+/// A name as long as an image can hold: another one like it is no longer.
+#[test]
+fn long_names() {
+    let long = "a".repeat(form::image::MAX_NAME);
+    for items in
+        ["state { L: u64; L: u32; }", "entry L() { } entry L() { }", "entry e(L: u64) { let L = 5; }"]
+    {
+        let text = format!("contract C {{ {} }}", items.replace('L', &long));
+        let fault = faults_of(&text).remove(0);
+        fault.ways.iter().for_each(|way| helps(&text, &fault, way));
+    }
+}
+
 /// `QTOV` is the ledger's: nobody is told to declare it.
 #[test]
 fn qtov_is_never_declared() {
