@@ -55,6 +55,16 @@ fn light_and_dark_can_be_read() {
     }
 }
 
+/// The line under a mark lies below the `_` of a name, which would not be seen on it: `_` lies about a
+/// quarter of an em below the letters.
+#[test]
+fn no_underscore_is_covered() {
+    let (_, mark) = STYLE.split_once("\nmark {").expect("the style of marks");
+    let (_, offset) = mark.split_once("text-underline-offset: ").expect("where the line lies");
+    let em: f64 = offset.split_once("em").and_then(|(em, _)| em.parse().ok()).expect("in em");
+    assert!(em >= 0.35, "{em}");
+}
+
 /// Nothing is loaded from anywhere.
 #[test]
 fn the_style_loads_nothing() {
