@@ -7,14 +7,32 @@ mod choose;
 use choose::{Chosen, named, own};
 use std::cell::RefCell;
 use std::fs;
+use std::ops::Deref;
 use std::os::unix::fs::PermissionsExt;
 use std::path::{Path, PathBuf};
 use std::process::Command;
 
+/// A folder that goes with its test. It stands outside of this repository, whose toolchain takes every source
+/// that it finds there for one of a crate.
+struct Folder(PathBuf);
+
+impl Deref for Folder {
+    type Target = Path;
+
+    fn deref(&self) -> &Path {
+        &self.0
+    }
+}
+
+impl Drop for Folder {
+    fn drop(&mut self) {
+        let _ = fs::remove_dir_all(&self.0);
+    }
+}
+
 /// A repository with one crate, and the scripts as they are.
-fn repository(name: &str) -> PathBuf {
-    let root = Path::new(env!("CARGO_TARGET_TMPDIR")).join(name);
-    let _ = fs::remove_dir_all(&root);
+fn repository(name: &str) -> Folder {
+    let root = Folder(std::env::temp_dir().join(format!("isonkaypu-{}-{name}", std::process::id())));
     write(&root.join("crates.txt"), "image:\n");
     write(&root.join("crates/image/src/lib.rt"), "one");
     write(&root.join("crates/image/proofs/Lib.antt"), "proof");
