@@ -18,19 +18,18 @@ const STYLE: &str = include_str!("html/style.css");
 /// Nothing may be loaded and nothing may run: only the style that stands in the page.
 const POLICY: &str = "default-src 'none'; style-src 'unsafe-inline'";
 
-/// The report on a subject as a page.
+/// The report on a subject as a page. Faults come first, since they are what is to be mended; where there are
+/// none, what was checked and what was not.
 pub fn html(subject: &Subject) -> String {
     let view = View::of(subject);
+    let boxes = banner::boxes(&view);
+    let faults = code::section(&view) + &card::section(&view);
+    let (first, then) = if view.count() == 0 { (boxes, faults) } else { (faults, boxes) };
     format!(
-        "<!DOCTYPE html>\n<html lang=\"en\">\n{}<body>\n{}{}<main>\n<div class=\"boxes\">{}{}</div>\n{}{}{}</main>\n\
-         </body>\n</html>\n",
+        "<!DOCTYPE html>\n<html lang=\"en\">\n{}<body>\n{}{}<main>\n{first}{then}{}</main>\n</body>\n</html>\n",
         head(&view),
         skip(&view),
         banner::section(&view),
-        banner::checked(&view),
-        banner::not_checked(&view),
-        code::section(&view),
-        card::section(&view),
         about(subject),
     )
 }

@@ -299,3 +299,27 @@ fn not_packed_without_its_line() {
     }
     sound(&shown((15, 15), Some(text.as_bytes())));
 }
+
+/// Who has faults to mend meets them first; who has none meets what nobody looked at.
+#[test]
+fn faults_come_first() {
+    for page in pages() {
+        let at = |id: &str| page.html.find(&format!("id=\"{id}\""));
+        match (at("faults"), at("not-checked")) {
+            (Some(faults), Some(not_checked)) => assert!(faults < not_checked, "{}", page.name),
+            (None, Some(not_checked)) => {
+                assert!(at("source").is_none_or(|source| not_checked < source), "{}", page.name);
+            }
+            (_, None) => panic!("{}: what was not checked is not said", page.name),
+        }
+    }
+}
+
+/// Where nothing was checked, the rules are not said to look at nothing.
+#[test]
+fn no_rule_is_blamed_for_what_could_not_be_read() {
+    for page in pages() {
+        let read = page.html.contains("id=\"checked\"");
+        assert_eq!(page.html.contains("No rule looks at these"), read, "{}", page.name);
+    }
+}

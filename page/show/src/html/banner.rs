@@ -54,7 +54,8 @@ fn answer(view: &View) -> Answer {
             drawing: "M6 6l12 12M18 6L6 18",
             html: format!(
                 "<p>This contract is not let through as it stands. {} Mend them all, then check the contract again.\
-                 </p>{}",
+                 </p>{}<p>Below the faults: what is <a href=\"#checked\">checked</a>, and what is \
+                 <a href=\"#not-checked\">not</a>.</p>",
                 shown(report),
                 doubts(report) + &summary(view)
             ),
@@ -168,7 +169,7 @@ pub fn section(view: &View) -> String {
 }
 
 /// What was checked, with the number of faults of each check; nothing where no check ran.
-pub fn checked(view: &View) -> String {
+fn checked(view: &View) -> String {
     let count = |pass: Pass| view.items().filter(|item| item.fault.pass == pass).count();
     let row = |(pass, check): &(Pass, Claim)| check_row(check, count(*pass));
     let rows: String = about::checked(view.subject).iter().map(row).collect();
@@ -198,7 +199,7 @@ fn check_row(check: &Claim, count: usize) -> String {
 }
 
 /// What nobody may take for checked.
-pub fn not_checked(view: &View) -> String {
+fn not_checked(view: &View) -> String {
     let row = |gap: &Claim| {
         format!(
             "<li><strong>{}</strong> <span>{}</span></li>",
@@ -207,8 +208,17 @@ pub fn not_checked(view: &View) -> String {
         )
     };
     let rows: String = about::not_checked(view.subject).iter().map(row).collect();
+    let why = match view.subject.report() {
+        Some(_) => "No rule looks at these, and an accepted contract can be wrong in them:",
+        None => "Nothing was checked, so this report says nothing about:",
+    };
     format!(
         "<section class=\"box open\" aria-labelledby=\"not-checked\"><h2 id=\"not-checked\">Not checked</h2>\
-         <p>No rule looks at these, and an accepted contract can be wrong in them:</p><ul class=\"checks\">{rows}</ul></section>\n"
+         <p>{why}</p><ul class=\"checks\">{rows}</ul></section>\n"
     )
+}
+
+/// What was checked and what was not, side by side.
+pub fn boxes(view: &View) -> String {
+    format!("<div class=\"boxes\">{}{}</div>\n", checked(view), not_checked(view))
 }
