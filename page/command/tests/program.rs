@@ -1,32 +1,13 @@
 //! The program itself, run as people and scripts run it: statuses, outputs, odd inputs.
 
+mod common;
+
+use common::{ACCEPTED, FAULTY as WARD, NO_IMAGE, OFFENCES, Ran, TROUBLE, program, ran};
 use std::ffi::OsStr;
 use std::fs::{self, File};
 use std::io::Write;
 use std::path::{Path, PathBuf};
-use std::process::{Command, Output, Stdio};
-
-const ACCEPTED: i32 = 0;
-const OFFENCES: i32 = 1;
-const NO_IMAGE: i32 = 2;
-const TROUBLE: i32 = 3;
-
-const WARD: &str = "contract Ward {\n    state { limit: u64; }\n    invariant issued <= limit;\n}\n";
-
-fn program() -> Command {
-    Command::new(env!("CARGO_BIN_EXE_isonkaypu"))
-}
-
-struct Ran {
-    status: Option<i32>,
-    out: String,
-    err: String,
-}
-
-fn ran(output: Output) -> Ran {
-    let text = |bytes: Vec<u8>| String::from_utf8(bytes).expect("text");
-    Ran { status: output.status.code(), out: text(output.stdout), err: text(output.stderr) }
-}
+use std::process::Stdio;
 
 fn run<T: AsRef<OsStr>>(arguments: &[T]) -> Ran {
     ran(program().args(arguments).stdin(Stdio::null()).output().expect("the program runs"))

@@ -1,37 +1,17 @@
 //! Reports of the program that could mislead: another text, no text, several images, an output that is
 //! closed, full or taken.
 
+mod common;
+
+use common::{ACCEPTED, FAULTY, NO_IMAGE, OFFENCES, Ran, TROUBLE, program, ran};
 use std::fs::{self, File};
 use std::path::{Path, PathBuf};
-use std::process::{Command, Output, Stdio};
-
-const ACCEPTED: i32 = 0;
-const OFFENCES: i32 = 1;
-const NO_IMAGE: i32 = 2;
-const TROUBLE: i32 = 3;
+use std::process::{Command, Stdio};
 
 const FINE: &str = "contract Ward {\n    state { limit: u64; }\n    invariant limit <= limit;\n}\n";
-const FAULTY: &str = "contract Ward {\n    state { limit: u64; }\n    invariant issued <= limit;\n}\n";
-
-fn program() -> Command {
-    let mut program = Command::new(env!("CARGO_BIN_EXE_isonkaypu"));
-    program.stdin(Stdio::null()).env_remove("NO_COLOR");
-    program
-}
-
-struct Ran {
-    status: Option<i32>,
-    out: String,
-    err: String,
-}
-
-fn ran(output: Output) -> Ran {
-    let text = |bytes: Vec<u8>| String::from_utf8(bytes).expect("text");
-    Ran { status: output.status.code(), out: text(output.stdout), err: text(output.stderr) }
-}
 
 fn run(arguments: &[&str]) -> Ran {
-    ran(program().args(arguments).output().expect("the program runs"))
+    ran(program().args(arguments).stdin(Stdio::null()).output().expect("the program runs"))
 }
 
 /// A line of a shell in which `$0` is the program and `$1` an image.

@@ -22,7 +22,9 @@
 //!   past the last; the image carries them as the contract has them and nobody judges them, so they may
 //!   lie outside of the source.
 //! - `show` makes reports for people and for programs of it, with the lines of the source.
-//! - Not checked: supply (`conserve`), and who signs.
+//! - An accepted contract can still be wrong in what no rule looks at: supply (`conserve`), signed
+//!   authority, undeclared names in statements, stock that never gets a name, and more. Every report of
+//!   `show` names all of it.
 //! - Any contract and any bytes may be given, from any number of threads at once. Nothing here panics,
 //!   and 256 KiB of stack are enough for every call. A contract that is too deep is refused; only how it
 //!   is dropped is its own matter.

@@ -9,6 +9,7 @@ use isonkaypu::{Limit, PackError, Span, check_image};
 use show::Subject;
 use std::path::Path;
 
+pub mod any;
 pub mod chance;
 pub mod contracts;
 pub mod follow;
