@@ -3,6 +3,27 @@
 
 use form::Tree;
 use generate::Node;
+use std::time::{Duration, Instant};
+
+/// How long is spent on it: an image of every maximum could take minutes, and what stands by then will do.
+const PATIENCE: Duration = Duration::from_secs(2);
+
+/// What a smaller image must still show, and until when one is sought.
+struct Search<'a> {
+    shows: &'a dyn Fn(&[u8]) -> bool,
+    until: Instant,
+}
+
+impl Search<'_> {
+    fn goes_on(&self) -> bool {
+        Instant::now() < self.until
+    }
+
+    fn holds(&self, tree: &Node) -> bool {
+        let image = tree.image();
+        reference::refusal(&image) == 0 && (self.shows)(&image)
+    }
+}
 
 /// The smallest image that this finds on which `shows` still holds. Bytes that are not admitted
 /// are only shortened from their end.
@@ -11,12 +32,9 @@ pub fn shrink(image: &[u8], shows: &dyn Fn(&[u8]) -> bool) -> Vec<u8> {
         return shortened(image, shows);
     };
     let mut tree = Node::of(&tree);
-    let holds = |tree: &Node| {
-        let image = tree.image();
-        reference::refusal(&image) == 0 && shows(&image)
-    };
-    while smaller(&mut tree, &holds) {}
-    short_names(&mut tree, &holds);
+    let search = Search { shows, until: Instant::now() + PATIENCE };
+    while smaller(&mut tree, &search) {}
+    short_names(&mut tree, &search);
     tree.image()
 }
 
@@ -29,13 +47,13 @@ fn shortened(image: &[u8], shows: &dyn Fn(&[u8]) -> bool) -> Vec<u8> {
 }
 
 /// One round over all nodes; true where something could go.
-fn smaller(tree: &mut Node, holds: &dyn Fn(&Node) -> bool) -> bool {
+fn smaller(tree: &mut Node, search: &Search) -> bool {
     let mut changed = false;
     let mut place = tree.size();
-    while place > 1 {
+    while place > 1 && search.goes_on() {
         place -= 1;
         for candidate in candidates(tree, place) {
-            if candidate.size() < tree.size() && holds(&candidate) {
+            if candidate.size() < tree.size() && search.holds(&candidate) {
                 *tree = candidate;
                 changed = true;
                 break;
@@ -93,13 +111,13 @@ fn node_at(tree: &mut Node, place: usize) -> &mut Node {
 }
 
 /// Renames each name to the first letter that keeps the mismatch, and clears the spans.
-fn short_names(tree: &mut Node, holds: &dyn Fn(&Node) -> bool) {
+fn short_names(tree: &mut Node, search: &Search) {
     let names: Vec<String> = tree.names().iter().map(|n| n.to_string()).collect();
     for old in names.iter().filter(|n| n.len() > 1) {
-        for letter in 'a'..='z' {
+        for letter in ('a'..='z').take_while(|_| search.goes_on()) {
             let mut renamed = tree.clone();
             rename(&mut renamed, old, &letter.to_string());
-            if holds(&renamed) {
+            if search.holds(&renamed) {
                 *tree = renamed;
                 break;
             }
@@ -107,7 +125,7 @@ fn short_names(tree: &mut Node, holds: &dyn Fn(&Node) -> bool) {
     }
     let mut cleared = tree.clone();
     cleared.for_each_mut(&mut |n| (n.from, n.to) = (0, 0));
-    if holds(&cleared) {
+    if search.holds(&cleared) {
         *tree = cleared;
     }
 }
