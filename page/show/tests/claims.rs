@@ -1,10 +1,8 @@
 //! What every form says was checked and was not: all say the same, from one list, and no more than the
 //! rules look at.
 
-mod common;
-
-use common::json::Json;
-use common::{shown, shown_source};
+use crate::common::json::Json;
+use crate::common::{shown, shown_source};
 
 /// Text as it is read: on one line, without the signs of HTML.
 fn joined(text: &str) -> String {
