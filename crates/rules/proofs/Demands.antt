@@ -19,7 +19,7 @@ use Rattle.rules.specs.Linear.{linear}
 use Rattle.rules.specs.Model.{StateName, isState, DeclaredAsset, isDeclaredAsset, KnownAsset, isKnownAsset}
 use Rattle.rules.specs.All.{offences, Before, Ordered, key, FullList}
 use Rattle.rules.specs.Passes.{PassRules, resolving, accessing, linearity, ofPass, None, FirstOffence}
-use Rattle.rules.specs.Answers.{IsRefused, IsAdmitted, Answer, imageRefused, accepted, refusedAt, verdict, passAnswer, NameReply, replyRefused, replied, ask, laid, ListReply, listRefused, listHas, listAnswer, listBuffer, partAnswer, partWords, lentRows, row, rows}
+use Rattle.rules.specs.Answers.{IsRefused, IsAdmitted, Answer, imageRefused, accepted, refusedAt, verdict, passAnswer, NameReply, replyRefused, replied, ask, laid, ListReply, listRefused, listHas, listAnswer, listBuffer, partAnswer, partWords, lentRows, row, verdictRows}
 use Rattle.rules.specs.Report.{rest, listLines, recordLines, reportText}
 use Rattle.rules.specs.Demands.{EachPass, EachQuestion, Number, TooShort, passLines, Demand-1, Demand-2, Demand-3}
 use Rattle.rules.proofs.Reflect.{Tells}
@@ -28,6 +28,7 @@ use Rattle.rules.proofs.Unique.{never, full-list-unique}
 use Rattle.rules.proofs.Full.{full, only-full}
 use Rattle.rules.proofs.Passes.{Judges, judges-resolve, judges-access, judges-linear}
 use Rattle.rules.proofs.Numbers.{equal-numbers}
+use Rattle.rules.proofs.Spans.{unjudged}
 use Rattle.rules.proofs.Answers.{decide, refusal-most, pass-refused, pass-admitted, decided, pass-accepts, pass-refuses, ask-refused, ask-admitted, list-refused, list-short, list-listed, buffer-refused, buffer-short, buffer-listed, part-refused, part-admitted, part-words-refused, part-words-admitted, in-turn}
 
 -- an image that is refused by a number is not admitted
@@ -249,7 +250,7 @@ module _ {R : Type 0} (blank : R) (s : List ℕ) (z : List R) where
   lent-admitted : IsAdmitted s → lentRows blank s z ≡ replicate 511 blank
   lent-admitted e = ap (λ (b : Bool). pick b (replicate 511 blank) z) (eq-eqb (refusal s) 0 e)
 
-plain : (s : List ℕ) → IsRefused s → rows s ≡ row (imageRefused (refusal s)) ++ row (imageRefused (refusal s)) ++ row (imageRefused (refusal s))
+plain : (s : List ℕ) → IsRefused s → verdictRows s ≡ row (imageRefused (refusal s)) ++ row (imageRefused (refusal s)) ++ row (imageRefused (refusal s))
 plain s r =
     ap₂ (λ (a b : Answer). row a ++ row b ++ row (passAnswer linear s)) (pass-refused resolve s r) (pass-refused access s r)
     ∙ ap (λ (c : Answer). row (imageRefused (refusal s)) ++ row (imageRefused (refusal s)) ++ row c) (pass-refused linear s r)
@@ -284,6 +285,7 @@ demand-2 = record {
   yes = each-question ask-yes;
   no = each-question ask-no;
   names = equal-numbers;
+  unjudged = unjudged;
   lent = lent-admitted;
 }
 

@@ -151,5 +151,5 @@ lentRows blank s rows = pick (eqb (refusal s) 0) (replicate 511 blank) rows
 abbrev pub row : Answer → List ℕ
 row a = a .number ∷ a .place ∷ a .from ∷ a .to ∷ []
 
-abbrev pub rows : List ℕ → List ℕ
-rows s = row (passAnswer resolve s) ++ row (passAnswer access s) ++ row (passAnswer linear s)
+abbrev pub verdictRows : List ℕ → List ℕ
+verdictRows s = row (passAnswer resolve s) ++ row (passAnswer access s) ++ row (passAnswer linear s)

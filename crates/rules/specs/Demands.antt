@@ -4,7 +4,7 @@
 -- Rattle function, and that it answers what stands here is its contract (`v` is a case, with the numbers of document 01):
 --   `refused`, `isonkaypu_refusal`                          the number `refusal s`
 --   `resolve`, `access`, `linear`, also for C, `verdicts`   `passAnswer` of the pass
---   `isonkaypu_verdicts`                                    `rows s`, twelve numbers
+--   `isonkaypu_verdicts`                                    `verdictRows s`, twelve numbers
 --   `is_state` and the other two questions, also for C      `ask` of the test
 --   `list`, also for C                                      `listAnswer`, and `listBuffer` in the buffer
 --   `resolve_list` and the other two parts, also for C      `partAnswer`, and `partWords` in the buffer
@@ -26,7 +26,8 @@ use Rattle.rules.specs.Model.{StateName, isState, DeclaredAsset, isDecla
 use Rattle.rules.specs.All.{FullList}
 use Rattle.rules.specs.Passes.{PassRules, resolving, accessing, linearity, ofPass, None, FirstOffence}
 use Rattle.rules.specs.Names.{EqualNumbers}
-use Rattle.rules.specs.Answers.{IsRefused, IsAdmitted, imageRefused, accepted, refusedAt, passAnswer, replyRefused, replied, ask, laid, listRefused, listHas, listAnswer, listBuffer, partAnswer, partWords, InTurn, lentRows, row, rows}
+use Rattle.rules.specs.Spans.{Unjudged}
+use Rattle.rules.specs.Answers.{IsRefused, IsAdmitted, imageRefused, accepted, refusedAt, passAnswer, replyRefused, replied, ask, laid, listRefused, listHas, listAnswer, listBuffer, partAnswer, partWords, InTurn, lentRows, row, verdictRows}
 use Rattle.rules.specs.Report.{rest, passLine, recordLines, reportText}
 
 -- of each pass; of each question about a name, with the fact that it asks for
@@ -71,12 +72,14 @@ pub record Demand-1 : Type 1 where
   pub lent : {R : Type 0} (blank : R) (s : List ℕ) (z : List R) → IsRefused s → lentRows blank s z ≡ z
   pub plain :
       (s : List ℕ) → IsRefused s
-      → rows s ≡ row (imageRefused (refusal s)) ++ row (imageRefused (refusal s)) ++ row (imageRefused (refusal s))
+      → verdictRows s ≡ row (imageRefused (refusal s)) ++ row (imageRefused (refusal s)) ++ row (imageRefused (refusal s))
   pub text : (s : List ℕ) → IsRefused s → reportText s ≡ bytes "image" ++ rest (refusal s ∷ [])
 
 -- Demand 2. On every admitted image each pass accepts exactly when none of its offences is there, and else gives the code, the place
 -- and the span words of the first; each question about a name is answered yes or no exactly as the fact holds. Names are equal only
--- when their bytes are: two name numbers are equal exactly then. A table of rows that was lent is blank afterwards.
+-- when their bytes are: two name numbers are equal exactly then. Span words are carried, never judged: images that
+-- differ in them alone have the same refusal and the same tree, so that no answer differs but in the span words that it carries. A
+-- table of rows that was lent is blank afterwards.
 pub record Demand-2 : Type 1 where
   pub accepts : EachPass (λ p. (s : List ℕ) → IsAdmitted s → (passAnswer (p .part) s ≡ accepted) ↔ None (tree s) p)
   pub refuses :
@@ -86,6 +89,7 @@ pub record Demand-2 : Type 1 where
   pub yes : EachQuestion (λ q Q. (s w : List ℕ) → IsAdmitted s → (ask q s w ≡ replied true) ↔ Q (tree s) w)
   pub no : EachQuestion (λ q Q. (s w : List ℕ) → IsAdmitted s → (ask q s w ≡ replied false) ↔ (Q (tree s) w → ⊥))
   pub names : EqualNumbers
+  pub unjudged : Unjudged
   pub lent : {R : Type 0} (blank : R) (s : List ℕ) (z : List R) → IsAdmitted s → lentRows blank s z ≡ replicate 511 blank
 
 -- Demand 3. An admitted image has a full list (specs/All: each offence of the passes, and nothing else, in the stated order), only
