@@ -1,8 +1,8 @@
 -- `count` meets its contract: the list with no room.
 use borrow.Author.Needs.{needs}
 use native.Mathlib.Omega.{arith}
-use Rattle.typeck.proofs.count.Statement.{statement}
-use Rattle.typeck.proofs.count.Tie as tie
+use Rattle.passes.proofs.count.Statement.{statement}
+use Rattle.passes.proofs.count.Tie as tie
 
 returns : tie.Need-returns
 returns c =

@@ -13,7 +13,7 @@ use Rattle.nodes.proofs.Heads.{root-of, view-of}
 use Rattle.names.specs.declared.Words.{Words}
 use Rattle.names.specs.Spelled.{WordsOf, Looked}
 use Rattle.linear.specs.Seen.{LookedWords}
-use Rattle.typeck.specs.Lookups.{LookedUp}
+use Rattle.passes.specs.Lookups.{LookedUp}
 
 abbrev pub by-words : {nodes : List ℕ} {words : Words} {state : List Bool} → Looked nodes words state → LookedWords nodes words
 by-words T = record { view = T .view; root = T .root; words-are = T .words-are }

@@ -2,9 +2,9 @@
 use borrow.Author.Needs.{needs}
 use native.Mathlib.Omega.{arith}
 use Rattle.rules.specs.Tree.{tree}
-use Rattle.typeck.proofs.Laws.{offences-many}
-use Rattle.typeck.proofs.count_all.Statement.{statement}
-use Rattle.typeck.proofs.count_all.Tie as tie
+use Rattle.passes.proofs.Laws.{offences-many}
+use Rattle.passes.proofs.count_all.Statement.{statement}
+use Rattle.passes.proofs.count_all.Tie as tie
 
 returns : tie.Need-returns
 returns c = let n = offences-many (tree (c .before .before .before .before .args .image .now)) in (omega arith, omega arith)

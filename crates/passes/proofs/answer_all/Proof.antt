@@ -1,9 +1,9 @@
 -- `answer_all` meets its contract: one look-up, then each pass.
 use borrow.Author.Needs.{needs}
 use Rattle.nodes.proofs.Heads.{root-of, view-of}
-use Rattle.typeck.proofs.Lookups.{looked-up}
-use Rattle.typeck.proofs.answer_all.Statement.{statement}
-use Rattle.typeck.proofs.answer_all.Tie as tie
+use Rattle.passes.proofs.Lookups.{looked-up}
+use Rattle.passes.proofs.answer_all.Statement.{statement}
+use Rattle.passes.proofs.answer_all.Tie as tie
 
 mark-state-requires : tie.Need-mark-state-requires
 mark-state-requires c κs = let S = c .before .before .area .ensures in (view-of S, root-of S)

@@ -1,9 +1,9 @@
 -- `first_with` meets its contract: the verdict of the first record.
 use borrow.Author.Needs.{needs}
-use Rattle.typeck.proofs.Laws.{judged-admitted}
-use Rattle.typeck.proofs.Lookups.{looked-of}
-use Rattle.typeck.proofs.first_with.Statement.{statement}
-use Rattle.typeck.proofs.first_with.Tie as tie
+use Rattle.passes.proofs.Laws.{judged-admitted}
+use Rattle.passes.proofs.Lookups.{looked-of}
+use Rattle.passes.proofs.first_with.Statement.{statement}
+use Rattle.passes.proofs.first_with.Tie as tie
 
 list-with-requires : tie.Need-list-with-requires
 list-with-requires c κs = looked-of (c .before .before .before .pre)

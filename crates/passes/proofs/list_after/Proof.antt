@@ -2,9 +2,9 @@
 use borrow.Author.Needs.{needs}
 use native.Mathlib.Omega.{arith}
 use mathlib.Core.Path.{refl}
-use Rattle.typeck.proofs.Laws.{added-rest}
-use Rattle.typeck.proofs.list_after.Statement.{statement}
-use Rattle.typeck.proofs.list_after.Tie as tie
+use Rattle.passes.proofs.Laws.{added-rest}
+use Rattle.passes.proofs.list_after.Statement.{statement}
+use Rattle.passes.proofs.list_after.Tie as tie
 
 add-result : tie.Need-add-result
 add-result c = let n = c .before .before .list-of .ensures .laid tt .count in let h = c .before .before .before .before .before .before .pre .1 in omega arith

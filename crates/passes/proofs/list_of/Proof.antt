@@ -3,9 +3,9 @@ use borrow.Author.Needs.{needs}
 use mathlib.Core.Path.{refl}
 use Rattle.records.proofs.Laws.{added-by}
 use Rattle.nodes.proofs.Heads.{root-of, view-of}
-use Rattle.typeck.proofs.Lookups.{looked-up, looked-of}
-use Rattle.typeck.proofs.list_of.Statement.{statement}
-use Rattle.typeck.proofs.list_of.Tie as tie
+use Rattle.passes.proofs.Lookups.{looked-up, looked-of}
+use Rattle.passes.proofs.list_of.Statement.{statement}
+use Rattle.passes.proofs.list_of.Tie as tie
 
 mark-state-requires : tie.Need-mark-state-requires
 mark-state-requires c κs = let S = c .before .before .area .ensures in (view-of S, root-of S)

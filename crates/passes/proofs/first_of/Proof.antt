@@ -1,8 +1,8 @@
 -- `first_of` meets its contract: the verdict of the first record.
 use borrow.Author.Needs.{needs}
-use Rattle.typeck.proofs.Laws.{judged-admitted}
-use Rattle.typeck.proofs.first_of.Statement.{statement}
-use Rattle.typeck.proofs.first_of.Tie as tie
+use Rattle.passes.proofs.Laws.{judged-admitted}
+use Rattle.passes.proofs.first_of.Statement.{statement}
+use Rattle.passes.proofs.first_of.Tie as tie
 
 returns : tie.Need-returns
 returns c = judged-admitted (c .before .before .before .before .before .before .args .pass) _ (c .before .before .before .before .before .before .pre .admitted) (c .judge .ensures _ (c .before .before .before .list-of .ensures .laid tt))

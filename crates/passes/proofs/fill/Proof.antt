@@ -2,9 +2,9 @@
 use borrow.Author.Needs.{needs}
 use native.Mathlib.Omega.{arith}
 use Rattle.rules.specs.Tree.{tree}
-use Rattle.typeck.proofs.Laws.{room-resolve, room-access, room-linear, laid-all}
-use Rattle.typeck.proofs.fill.Statement.{statement}
-use Rattle.typeck.proofs.fill.Tie as tie
+use Rattle.passes.proofs.Laws.{room-resolve, room-access, room-linear, laid-all}
+use Rattle.passes.proofs.fill.Statement.{statement}
+use Rattle.passes.proofs.fill.Tie as tie
 
 list-after-requires : tie.Need-list-after-requires
 list-after-requires c κs =

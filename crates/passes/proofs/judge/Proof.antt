@@ -1,8 +1,8 @@
 -- `judge` meets its contract: the first record's code and place, with the span words of its place.
 use borrow.Author.Needs.{needs}
-use Rattle.typeck.proofs.Laws.{first-none, first-one}
-use Rattle.typeck.proofs.judge.Statement.{statement}
-use Rattle.typeck.proofs.judge.Tie as tie
+use Rattle.passes.proofs.Laws.{first-none, first-one}
+use Rattle.passes.proofs.judge.Statement.{statement}
+use Rattle.passes.proofs.judge.Tie as tie
 
 returns : tie.Need-returns
 returns c = λ l L. first-none (c .before .before .before .args .image .now) l L (c .if1 .taken)

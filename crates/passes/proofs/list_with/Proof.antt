@@ -6,10 +6,10 @@ use mathlib.Core.Path.{refl}
 use Rattle.records.proofs.Laws.{added-by}
 use Rattle.nodes.specs.Shown.{treeOf}
 use Rattle.names.specs.Spelled.{Looked}
-use Rattle.typeck.proofs.Laws.{listed-by}
-use Rattle.typeck.proofs.Lookups.{by-words}
-use Rattle.typeck.proofs.list_with.Statement.{statement}
-use Rattle.typeck.proofs.list_with.Tie as tie
+use Rattle.passes.proofs.Laws.{listed-by}
+use Rattle.passes.proofs.Lookups.{by-words}
+use Rattle.passes.proofs.list_with.Statement.{statement}
+use Rattle.passes.proofs.list_with.Tie as tie
 
 list-requires-3 : tie.Need-list-requires-3
 list-requires-3 c κs = by-words (c .before .before .before .before .before .pre)
