@@ -254,6 +254,6 @@ pub fn list(nodes: &[u8], words: Words, state: &Marks, out: &mut [u16]) -> usize
     let items = nodes::find_items(nodes);
     let builtins = words.builtins;
     let first = first_groups(nodes, items, builtins.mint_asset, state, out);
-    let total = resolve_clauses::group32(nodes, words.deployer, out, first);
+    let total = resolve_deployer::group32(nodes, words.deployer, out, first);
     last_groups(nodes, words, items.genesis, state, out, total)
 }

@@ -27,8 +27,9 @@ use Rattle.nodes.proofs.Shapes.{within}
 use Rattle.nodes.proofs.Flat.{flat}
 use Rattle.names.specs.Found.{Numbered}
 use Rattle.names.proofs.Said.{unsaid}
-use Rattle.resolve_clauses.specs.Said.{OneTable, Deployed, DeployerIs, identRules, item32}
+use Rattle.resolve_clauses.specs.Said.{OneTable}
+use Rattle.resolve_deployer.specs.Deployed.{Deployed, DeployerIs, identRules, item32}
 use Rattle.resolve_clauses.proofs.Hits.{signer-in}
 
 abbrev pub table-of : {nodes : List ℕ} {base : ℕ} {marks : List Bool} → Deployed nodes base marks → OneTable nodes base marks
 table-of T = record { view = T .view; says = λ w. same w deployer; tells = T .tells }

@@ -10,9 +10,9 @@ use Rattle.nodes.proofs.Cursors.{Over, before-last, past-last, still-over, on-t
 use Rattle.nodes.proofs.Steps.{Walk}
 use Rattle.nodes.proofs.Head.{head-starts, head-less, head-on, head-done}
 use Rattle.rules.specs.Tree.{limits-denies-after}
-use Rattle.resolve_clauses.specs.Said.{Deployed, identRules}
-use Rattle.resolve_clauses.proofs.clauses32.Statement.{statement}
-use Rattle.resolve_clauses.proofs.clauses32.Tie as tie
+use Rattle.resolve_deployer.specs.Deployed.{Deployed, identRules}
+use Rattle.resolve_deployer.proofs.clauses32.Statement.{statement}
+use Rattle.resolve_deployer.proofs.clauses32.Tie as tie
 
 abbrev Inv-loop : tie.InvT-loop
 Inv-loop nodes entry to deployer out₀ count total₀ children₀ out total children = Over 0 to children × Walk (λ (T : Deployed nodes 0 deployer). T .view) limits-denies-after (λ T. identRules (treeOf (T .view))) (entry + 1) to 2048 out₀ count out total (children .at)

@@ -5,10 +5,10 @@ use mathlib.Core.Path.{_∙_, refl, sym}
 use native.Mathlib.Omega.{arith}
 use Rattle.records.proofs.Laws.{added-most, added-as, added-by, added-nothing}
 use Rattle.nodes.specs.Shown.{treeOf}
-use Rattle.resolve_clauses.proofs.Deployer.{item-entry, item-invariant, item-other, table-of}
+use Rattle.resolve_deployer.proofs.Deployer.{item-entry, item-invariant, item-other, table-of}
 use Rattle.rules.specs.Resolve.{rule32}
-use Rattle.resolve_clauses.proofs.item32.Statement.{statement}
-use Rattle.resolve_clauses.proofs.item32.Tie as tie
+use Rattle.resolve_deployer.proofs.item32.Statement.{statement}
+use Rattle.resolve_deployer.proofs.item32.Tie as tie
 
 entry32-requires : tie.Need-entry32-requires
 entry32-requires c κs = let l = c .before .before .before .before .before .pre .3 in (c .before .before .before .before .before .pre .0, record { here = c .before .before .before .before .before .pre .1; low = c .before .before .before .before .before .pre .2; is = λ W. sym (c .before .before .kind .ensures W) ∙ c .before .match .keys1 }, l)

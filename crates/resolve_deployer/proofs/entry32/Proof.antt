@@ -6,10 +6,10 @@ use native.Mathlib.Omega.{arith}
 use Rattle.records.proofs.Laws.{added-most, added-by, added-join}
 use Rattle.nodes.specs.First.{Head}
 use Rattle.nodes.proofs.Spans.{span-of}
-use Rattle.resolve_clauses.proofs.Deployer.{body-32, lent-range, lent-table, table-of}
+use Rattle.resolve_deployer.proofs.Deployer.{body-32, lent-range, lent-table, table-of}
 use Rattle.rules.specs.Resolve.{deployerIn, rule32}
-use Rattle.resolve_clauses.proofs.entry32.Statement.{statement}
-use Rattle.resolve_clauses.proofs.entry32.Tie as tie
+use Rattle.resolve_deployer.proofs.entry32.Statement.{statement}
+use Rattle.resolve_deployer.proofs.entry32.Tie as tie
 
 first-statement-requires : tie.Need-first-statement-requires
 first-statement-requires c κs = let E = c .before .before .pre .1 in (c .before .before .pre .0 .view, E .here, E .low)

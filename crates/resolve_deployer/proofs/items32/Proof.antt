@@ -11,9 +11,9 @@ use Rattle.nodes.proofs.Cursors.{Over, before-last, past-last, still-over, on-t
 use Rattle.nodes.proofs.Steps.{Walk, items-on, below-starts, below-moves, below-done}
 use Rattle.rules.specs.Tree.{invariant-entry}
 use Rattle.rules.specs.Resolve.{deployerOf, group32}
-use Rattle.resolve_clauses.specs.Said.{Deployed}
-use Rattle.resolve_clauses.proofs.items32.Statement.{statement}
-use Rattle.resolve_clauses.proofs.items32.Tie as tie
+use Rattle.resolve_deployer.specs.Deployed.{Deployed}
+use Rattle.resolve_deployer.proofs.items32.Statement.{statement}
+use Rattle.resolve_deployer.proofs.items32.Tie as tie
 
 abbrev Inv-loop : tie.InvT-loop
 Inv-loop nodes deployer out₀ count to total₀ children₀ out total children = Over 0 to children × Walk (λ (T : Deployed nodes 0 deployer). T .view) invariant-entry (λ T. deployerOf (treeOf (T .view))) 1 to (2 ^ 23) out₀ count out total (children .at)

@@ -4,9 +4,9 @@ use mathlib.Core.Path.{refl, subst}
 use Rattle.records.proofs.Laws.{added-by, added-nothing}
 use Rattle.names.specs.Found.{Numbered}
 use Rattle.names.proofs.Marked.{number-small}
-use Rattle.resolve_clauses.proofs.Deployer.{deployed-of, group32-none}
-use Rattle.resolve_clauses.proofs.group32.Statement.{statement}
-use Rattle.resolve_clauses.proofs.group32.Tie as tie
+use Rattle.resolve_deployer.proofs.Deployer.{deployed-of, group32-none}
+use Rattle.resolve_deployer.proofs.group32.Statement.{statement}
+use Rattle.resolve_deployer.proofs.group32.Tie as tie
 
 returns : tie.Need-returns
 returns c = added-nothing (λ T. group32-none (T .view) (c .before .before .before .pre .1) (subst (Numbered _ _) (c .if1 .taken) (T .is)))

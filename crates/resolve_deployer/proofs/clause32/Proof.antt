@@ -6,11 +6,11 @@ use native.Mathlib.Omega.{arith}
 use Rattle.records.proofs.Laws.{added-by, added-nothing}
 use Rattle.records.proofs.Sweep.{keep-none, keep-one}
 use Rattle.nodes.specs.Shown.{treeOf}
-use Rattle.resolve_clauses.proofs.Deployer.{expressions-in, expressions-out, table-of}
-use Rattle.resolve_clauses.specs.Said.{identRules}
+use Rattle.resolve_deployer.proofs.Deployer.{expressions-in, expressions-out, table-of}
+use Rattle.resolve_deployer.specs.Deployed.{identRules}
 use Rattle.rules.specs.Resolve.{rule32}
-use Rattle.resolve_clauses.proofs.clause32.Statement.{statement}
-use Rattle.resolve_clauses.proofs.clause32.Tie as tie
+use Rattle.resolve_deployer.proofs.clause32.Statement.{statement}
+use Rattle.resolve_deployer.proofs.clause32.Tie as tie
 
 within-requires : tie.Need-within-requires
 within-requires c κs = (table-of (c .before .before .before .before .before .before .pre .0), inr refl, c .before .before .before .before .before .before .pre .1, c .before .before .before .before .before .before .pre .2)
