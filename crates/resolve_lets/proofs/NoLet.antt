@@ -15,7 +15,7 @@ use Rattle.rules.specs.Resolve.{rule26, letRules}
 use Rattle.records.proofs.Sweep.{run-empty, keep-none, has-not}
 use Rattle.nodes.specs.Shown.{View, In, treeOf}
 use Rattle.nodes.proofs.Shapes.{allIn, not-in, no-part}
-use Rattle.resolve_names.specs.Seen.{NoLet, statementNames}
+use Rattle.resolve_lets.specs.Scope.{NoLet, statementNames}
 
 pub no-let : (k : ℕ) → has k statement ≡ false → has k «let» ≡ false
 unfolding allIn has

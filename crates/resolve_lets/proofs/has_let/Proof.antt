@@ -10,9 +10,9 @@ use Rattle.nodes.proofs.Shapes.{within}
 use Rattle.nodes.proofs.Spans.{child-on}
 use Rattle.nodes.proofs.Head.{head-end, head-first}
 use Rattle.nodes.proofs.Cursors.{Over, before-last, past-last, stands, still-over, on-to}
-use Rattle.resolve_names.proofs.NoLet.{no-let, no-let-on}
-use Rattle.resolve_names.proofs.has_let.Statement.{statement}
-use Rattle.resolve_names.proofs.has_let.Tie as tie
+use Rattle.resolve_lets.proofs.NoLet.{no-let, no-let-on}
+use Rattle.resolve_lets.proofs.has_let.Statement.{statement}
+use Rattle.resolve_lets.proofs.has_let.Tie as tie
 
 abbrev Inv-loop : tie.InvT-loop
 Inv-loop nodes entry first end children₀ children = Over 0 end children × (entry < children .at) × (children .at ≤ end) × ((W : View nodes 0) (j : ℕ) → entry < j → j < children .at → has (treeOf W .kind j) «let» ≡ false)

@@ -7,10 +7,10 @@ use Rattle.rules.specs.Tree.{«let»}
 use Rattle.records.proofs.Laws.{asked, asked-at, added-by, added-as, added-join}
 use Rattle.nodes.specs.Shown.{treeOf}
 use Rattle.nodes.proofs.Naming.{naming}
-use Rattle.resolve_names.proofs.Laws.{lets-at, at-itself}
-use Rattle.resolve_names.proofs.Lent.{among-in, state-of}
-use Rattle.resolve_names.proofs.let_names.Statement.{statement}
-use Rattle.resolve_names.proofs.let_names.Tie as tie
+use Rattle.resolve_lets.proofs.Laws.{lets-at, at-itself}
+use Rattle.resolve_lets.proofs.Lent.{among-in, state-of}
+use Rattle.resolve_lets.proofs.let_names.Statement.{statement}
+use Rattle.resolve_lets.proofs.let_names.Tie as tie
 
 met-requires : tie.Need-met-requires
 met-requires c κs = (naming .lets .0, among-in (c .before .before .pre .0 .scope .body) (c .before .before .pre .1) (c .before .before .pre .0 .scope .first-lets), c .before .before .pre .1, omega arith)

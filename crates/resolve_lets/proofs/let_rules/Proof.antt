@@ -10,11 +10,11 @@ use Rattle.nodes.proofs.Naming.{naming}
 use Rattle.nodes.proofs.Head.{head-is, head-first}
 use Rattle.places.specs.Places.{firstOf}
 use Rattle.places.proofs.Reading.{firsts-off}
-use Rattle.resolve_names.specs.Seen.{statementNames}
-use Rattle.resolve_names.proofs.Lent.{body-in}
-use Rattle.resolve_names.proofs.NoLet.{no-let-rules}
-use Rattle.resolve_names.proofs.let_rules.Statement.{statement}
-use Rattle.resolve_names.proofs.let_rules.Tie as tie
+use Rattle.resolve_lets.specs.Scope.{statementNames}
+use Rattle.resolve_lets.proofs.Lent.{body-in}
+use Rattle.resolve_lets.proofs.NoLet.{no-let-rules}
+use Rattle.resolve_lets.proofs.let_rules.Statement.{statement}
+use Rattle.resolve_lets.proofs.let_rules.Tie as tie
 
 has-let-requires : tie.Need-has-let-requires
 has-let-requires c κs = c .before .before .pre .1

@@ -8,9 +8,9 @@ use Rattle.rules.specs.Vocabulary.{rec}
 use Rattle.nodes.specs.Shown.{View, treeOf}
 use Rattle.nodes.proofs.Turns.{named-at}
 use Rattle.records.proofs.Sweep.{asks-other, asks-here}
-use Rattle.resolve_names.proofs.Laws.{declared-29}
-use Rattle.resolve_names.proofs.rule29.Statement.{statement}
-use Rattle.resolve_names.proofs.rule29.Tie as tie
+use Rattle.resolve_lets.proofs.Laws.{declared-29}
+use Rattle.resolve_lets.proofs.rule29.Statement.{statement}
+use Rattle.resolve_lets.proofs.rule29.Tie as tie
 
 is-let : (c : tie.Else1) (W : View (c .before .before .before .args .nodes .now) (c .before .before .before .args .base)) → treeOf W .kind (c .before .before .before .args .s) ≡ 25
 is-let c W = sym (c .before .kind .ensures W) ∙ c .if1 .left

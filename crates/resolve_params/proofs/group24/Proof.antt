@@ -13,10 +13,10 @@ use Rattle.nodes.specs.State.{State}
 use Rattle.nodes.proofs.Shapes.{allIn}
 use Rattle.nodes.proofs.Steps.{Walk, items-on, below-starts, below-moves, below-done}
 use Rattle.nodes.proofs.Cursors.{Over, before-last, past-last, still-over, on-to}
-use Rattle.resolve_names.specs.Seen.{NoneNoted}
-use Rattle.resolve_names.proofs.Lent.{fresh, cleaned}
-use Rattle.resolve_names.proofs.group24.Statement.{statement}
-use Rattle.resolve_names.proofs.group24.Tie as tie
+use Rattle.resolve_params.specs.Entries.{NoneNoted}
+use Rattle.resolve_params.proofs.Lent.{fresh, cleaned}
+use Rattle.resolve_params.proofs.group24.Statement.{statement}
+use Rattle.resolve_params.proofs.group24.Tie as tie
 
 abbrev Inv-loop : tie.InvT-loop
 Inv-loop nodes state out₀ count params₀ lets₀ end total₀ children₀ out params lets total children =

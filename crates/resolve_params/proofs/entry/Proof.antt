@@ -10,9 +10,9 @@ use Rattle.nodes.specs.Shown.{View, treeOf}
 use Rattle.nodes.specs.First.{Head}
 use Rattle.places.specs.Places.{firstOf}
 use Rattle.places.proofs.Reading.{firsts-off}
-use Rattle.resolve_names.proofs.Lent.{params-of, scope-of, entry-24}
-use Rattle.resolve_names.proofs.entry.Statement.{statement}
-use Rattle.resolve_names.proofs.entry.Tie as tie
+use Rattle.resolve_params.proofs.Lent.{params-of, scope-of, entry-24}
+use Rattle.resolve_params.proofs.entry.Statement.{statement}
+use Rattle.resolve_params.proofs.entry.Tie as tie
 
 returns : tie.Need-returns
 returns c = (added-nothing (λ T. keep-none _ _ (has-not _ 9 (λ e. c .if1 .taken (c .before .kind .ensures (T .named .view) ∙ e)))), λ T. T .clean)

@@ -15,11 +15,11 @@ use Rattle.nodes.proofs.Steps.{Walk}
 use Rattle.nodes.proofs.Cursors.{Over, before-last, past-last, still-over, on-to}
 use Rattle.nodes.proofs.Head.{head-end, head-starts, head-less, head-on, head-done}
 use Rattle.nodes.proofs.Naming.{naming}
-use Rattle.resolve_names.specs.Seen.{Params}
-use Rattle.resolve_names.proofs.Laws.{params-at}
-use Rattle.resolve_names.proofs.Lent.{among-params}
-use Rattle.resolve_names.proofs.parameters.Statement.{statement}
-use Rattle.resolve_names.proofs.parameters.Tie as tie
+use Rattle.resolve_lets.specs.Scope.{Params}
+use Rattle.resolve_params.proofs.Lent.{params-at}
+use Rattle.resolve_params.proofs.Lent.{among-params}
+use Rattle.resolve_params.proofs.parameters.Statement.{statement}
+use Rattle.resolve_params.proofs.parameters.Tie as tie
 
 abbrev Inv-loop : tie.InvT-loop
 Inv-loop nodes entry to state params out₀ count total₀ children₀ out total children =

@@ -12,9 +12,9 @@ use Rattle.nodes.proofs.Shapes.{allIn}
 use Rattle.nodes.proofs.Spans.{span-whole, upto-is}
 use Rattle.nodes.proofs.Cursors.{Over, before-last, past-last, stands, still-over, on-to}
 use Rattle.nodes.proofs.Steps.{Stepping, steps-start, step-at, steps-on, steps-done}
-use Rattle.resolve_names.specs.Seen.{NamingBody, statementNames}
-use Rattle.resolve_names.proofs.statements.Statement.{statement}
-use Rattle.resolve_names.proofs.statements.Tie as tie
+use Rattle.resolve_lets.specs.Scope.{NamingBody, statementNames}
+use Rattle.resolve_lets.proofs.statements.Statement.{statement}
+use Rattle.resolve_lets.proofs.statements.Tie as tie
 
 abbrev Inv-loop : tie.InvT-loop
 Inv-loop nodes base state params lets out₀ count end total₀ children₀ out total children =

@@ -6,9 +6,9 @@ use Rattle.rules.specs.Resolve.{rule26}
 use Rattle.rules.specs.Vocabulary.{rec}
 use Rattle.nodes.specs.Shown.{View, treeOf}
 use Rattle.records.proofs.Sweep.{asks-other, asks-here}
-use Rattle.resolve_names.proofs.Laws.{late-26}
-use Rattle.resolve_names.proofs.rule26.Statement.{statement}
-use Rattle.resolve_names.proofs.rule26.Tie as tie
+use Rattle.resolve_lets.proofs.Laws.{late-26}
+use Rattle.resolve_lets.proofs.rule26.Statement.{statement}
+use Rattle.resolve_lets.proofs.rule26.Tie as tie
 
 is-ident : (c : tie.Else1) (W : View (c .before .before .before .args .nodes .now) (c .before .before .before .args .base)) → treeOf W .kind (c .before .before .before .args .p) ≡ 35
 is-ident c W = sym (c .before .kind .ensures W) ∙ c .if1 .left

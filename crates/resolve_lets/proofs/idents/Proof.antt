@@ -8,9 +8,9 @@ use Rattle.records.proofs.Laws.{asked}
 use Rattle.records.proofs.Sweep.{sweep-long}
 use Rattle.nodes.specs.Shown.{treeOf}
 use Rattle.nodes.proofs.Steps.{Walk, walk-on, below-starts, below-done}
-use Rattle.resolve_names.specs.Seen.{Lets}
-use Rattle.resolve_names.proofs.idents.Statement.{statement}
-use Rattle.resolve_names.proofs.idents.Tie as tie
+use Rattle.resolve_lets.specs.Scope.{Lets}
+use Rattle.resolve_lets.proofs.idents.Statement.{statement}
+use Rattle.resolve_lets.proofs.idents.Tie as tie
 
 abbrev Inv-loop : tie.InvT-loop
 Inv-loop nodes base s lets out₀ count end total₀ p₀ out total p =
