@@ -1,10 +1,10 @@
 -- `rule30` meets its contract: an event is declared where a last one is noted.
 use borrow.Author.Needs.{needs}
 use Rattle.nodes.specs.Shown.{treeOf}
-use Rattle.resolve_events.proofs.Laws.{event-30}
-use Rattle.resolve_events.proofs.Lent.{emit-name}
-use Rattle.resolve_events.proofs.rule30.Statement.{statement}
-use Rattle.resolve_events.proofs.rule30.Tie as tie
+use Rattle.resolve_emits.proofs.Laws.{event-30}
+use Rattle.resolve_emits.proofs.Lent.{emit-name}
+use Rattle.resolve_emits.proofs.rule30.Statement.{statement}
+use Rattle.resolve_emits.proofs.rule30.Tie as tie
 
 returns : tie.Need-returns
 returns c = λ T. event-30 (treeOf (T .view)) _ _ (c .at .ensures .1 (T .view) _ (T .lasts))

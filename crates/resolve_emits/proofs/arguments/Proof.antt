@@ -7,9 +7,9 @@ use Rattle.nodes.specs.Shown.{In}
 use Rattle.nodes.proofs.Shapes.{within}
 use Rattle.nodes.proofs.Spans.{Span, span-of, child-on}
 use Rattle.nodes.proofs.Cursors.{Over, before-last, past-last, stands, still-over, on-to}
-use Rattle.resolve_events.proofs.Counting.{Counting, counting-starts, counting-on, counting-done}
-use Rattle.resolve_events.proofs.arguments.Statement.{statement}
-use Rattle.resolve_events.proofs.arguments.Tie as tie
+use Rattle.resolve_emits.proofs.Counting.{Counting, counting-starts, counting-on, counting-done}
+use Rattle.resolve_emits.proofs.arguments.Statement.{statement}
+use Rattle.resolve_emits.proofs.arguments.Tie as tie
 
 abbrev Inv-loop : tie.InvT-loop
 Inv-loop area emit end number₀ children₀ number children = Over 0 end children × Span area 0 emit end × Counting area 0 emit end number (children .at)

@@ -1,10 +1,10 @@
 -- `rule31` meets its contract: no event of the name, or the last one.
 use borrow.Author.Needs.{needs}
 use Rattle.nodes.specs.Shown.{treeOf}
-use Rattle.resolve_events.proofs.Laws.{none-31, event-31}
-use Rattle.resolve_events.proofs.Lent.{emit-name, area-of, emit-in, event-in}
-use Rattle.resolve_events.proofs.rule31.Statement.{statement}
-use Rattle.resolve_events.proofs.rule31.Tie as tie
+use Rattle.resolve_emits.proofs.Laws.{none-31, event-31}
+use Rattle.resolve_emits.proofs.Lent.{emit-name, area-of, emit-in, event-in}
+use Rattle.resolve_emits.proofs.rule31.Statement.{statement}
+use Rattle.resolve_emits.proofs.rule31.Tie as tie
 
 returns : tie.Need-returns
 returns c = λ T. none-31 (treeOf (T .body .view)) _ _ (c .before .at .ensures .1 (T .body .view) _ (T .lasts)) (c .if1 .taken)

@@ -15,7 +15,7 @@ use Rattle.records.proofs.Sweep.{run-none, run-on, keep-none, keep-one}
 use Rattle.nodes.specs.Shown.{View, In, treeOf}
 use Rattle.nodes.proofs.Parts.{inside, formed, past}
 use Rattle.nodes.proofs.Shapes.{ends-within}
-use Rattle.resolve_events.specs.Emitted.{IsKind}
+use Rattle.resolve_emits.specs.Emitted.{IsKind}
 use Rattle.nodes.proofs.Children.{Reached, no-child, reached-on}
 
 -- the numbers that pass a test

@@ -4,10 +4,10 @@ use native.Mathlib.Omega.{arith}
 use mathlib.Core.Path.{refl, sym, _∙_}
 use Rattle.records.proofs.Laws.{asked, added-nothing, added-as, added-by, added-join}
 use Rattle.records.proofs.Sweep.{has-one, has-not, keep-one, keep-none}
-use Rattle.resolve_events.specs.Emitted.{IsKind, Emitted}
-use Rattle.resolve_events.proofs.Lent.{noted-of}
-use Rattle.resolve_events.proofs.emit.Statement.{statement}
-use Rattle.resolve_events.proofs.emit.Tie as tie
+use Rattle.resolve_emits.specs.Emitted.{IsKind, Emitted}
+use Rattle.resolve_emits.proofs.Lent.{noted-of}
+use Rattle.resolve_emits.proofs.emit.Statement.{statement}
+use Rattle.resolve_emits.proofs.emit.Tie as tie
 
 returns : tie.Need-returns
 returns c = added-nothing (λ T. keep-none _ _ (has-not _ 26 (λ e. c .if1 .taken (c .before .kind .ensures (T .body .view) ∙ e))))

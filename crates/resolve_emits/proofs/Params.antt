@@ -18,7 +18,7 @@ use Rattle.rules.specs.Vocabulary.{alone, below}
 use Rattle.records.proofs.Sweep.{run-later, keep-none, keep-one, has-one, has-not}
 use Rattle.nodes.specs.Shown.{View, In, treeOf}
 use Rattle.nodes.proofs.Parts.{inside, formed, past}
-use Rattle.resolve_events.proofs.Counting.{those, at-node, leaf-first}
+use Rattle.resolve_emits.proofs.Counting.{those, at-node, leaf-first}
 
 run-all : (b : ℕ → Bool) (a n : ℕ) → ((j : ℕ) → a ≤ j → j < a + n → b j ≡ true) → length (run (those b) a n) ≡ n
 unfolding run
