@@ -19,10 +19,9 @@ use Rattle.rules.proofs.Resolve.{finds22}
 use Rattle.records.proofs.Sweep.{has-one}
 use Rattle.nodes.specs.Shown.{In, treeOf}
 use Rattle.nodes.proofs.Fall.{not-so}
-use Rattle.nodes.proofs.Shapes.{within}
+use Rattle.nodes.proofs.Shapes.{within, first-in}
 use Rattle.names.proofs.Said.{unsaid}
-use Rattle.resolve_calls.specs.Called.{Minting}
-use Rattle.resolve_calls.proofs.Laws.{callee}
+use Rattle.resolve_mints.specs.Minted.{Minting}
 
 -- of the nodes from 1 up to p, at most a is an Asset; 0: none is
 pub record One (t : Tree) (a p : ℕ) : Type 0 where
@@ -80,13 +79,14 @@ module _ (t : Tree) (root : t .root ≡ 0) {a p : ℕ} (O : One t a p) where
           omega arith
 
 pub no-mints : {nodes : List ℕ} {mint : ℕ} (T : Minting nodes 0 mint) → In nodes 0 0 → mint < 1 → group22 (treeOf (T .view)) ≡ []
+unfolding has
 no-mints T root z = finds-nothing (finds22 (treeOf (T .view))) (λ r o. never (r .place) (r .related) (o .1))
   where
     never : (p q : ℕ) → Offence22 (treeOf (T .view)) p q → ⊥
     never p q (i, e, M, B, (s, S, C), (k, m)) =
         let W = T .view in
         let c = within W (within W (within W root (B .after) (B .inside)) (S .after) (S .inside)) (C .after) (C .inside) in
-        unsaid (record { view = W; here = callee W c (List·Memᴰ·eq-of-singleton (C .kind)); carries = inr k }) W mint-asset (T .mint-number) z (List·Memᴰ·eq-of-singleton m)
+        unsaid (record { view = W; here = first-in W c 43 (List·Memᴰ·eq-of-singleton (C .kind)) (omega arith) refl; carries = inr k }) W mint-asset (T .mint-number) z (List·Memᴰ·eq-of-singleton m)
 
 -- the group, where there is over one Asset item, and where there is not
 pub few-22 : (t : Tree) → manyAssets t ≡ false → group22 t ≡ []

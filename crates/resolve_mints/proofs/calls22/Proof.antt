@@ -6,9 +6,9 @@ use Rattle.records.proofs.Laws.{asked}
 use Rattle.records.proofs.Sweep.{Sweeping, sweep-again, sweep-long}
 use Rattle.nodes.specs.Shown.{treeOf}
 use Rattle.nodes.proofs.Spans.{Span, span-whole, upto-is, whole-starts, whole-swept}
-use Rattle.resolve_calls.specs.Called.{Minting, at22}
-use Rattle.resolve_calls.proofs.calls22.Statement.{statement}
-use Rattle.resolve_calls.proofs.calls22.Tie as tie
+use Rattle.resolve_mints.specs.Minted.{Minting, at22}
+use Rattle.resolve_mints.proofs.calls22.Statement.{statement}
+use Rattle.resolve_mints.proofs.calls22.Tie as tie
 
 abbrev Inv-loop : tie.InvT-loop
 Inv-loop nodes base mint out₀ count end total₀ p₀ out total p = Span nodes base base end × Sweeping (λ (T : Minting nodes base mint) i. at22 i (treeOf (T .view))) base end 1 out₀ count out total p

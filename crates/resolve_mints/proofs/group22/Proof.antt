@@ -4,9 +4,9 @@ use mathlib.Core.Path.{_∙_, sym}
 use Rattle.records.proofs.Laws.{added-nothing, added-as}
 use Rattle.nodes.specs.Shown.{treeOf}
 use Rattle.nodes.proofs.Fall.{not-true, not-false}
-use Rattle.resolve_calls.proofs.Assets.{no-mints, few-22, many-22}
-use Rattle.resolve_calls.proofs.group22.Statement.{statement}
-use Rattle.resolve_calls.proofs.group22.Tie as tie
+use Rattle.resolve_mints.proofs.Assets.{no-mints, few-22, many-22}
+use Rattle.resolve_mints.proofs.group22.Statement.{statement}
+use Rattle.resolve_mints.proofs.group22.Tie as tie
 
 returns : tie.Need-returns
 returns c = added-nothing (λ T. no-mints T (c .before .before .before .pre .1) (c .if1 .taken))

@@ -10,9 +10,9 @@ use Rattle.nodes.specs.Shown.{View, treeOf}
 use Rattle.nodes.proofs.Spans.{Span, span-below}
 use Rattle.nodes.proofs.Shapes.{allIn}
 use Rattle.nodes.proofs.Walks.{declarations-on, declaration-moves, none-of}
-use Rattle.resolve_calls.proofs.Assets.{One, one-starts, one-still, one-met, many, one}
-use Rattle.resolve_calls.proofs.many_assets.Statement.{statement}
-use Rattle.resolve_calls.proofs.many_assets.Tie as tie
+use Rattle.resolve_mints.proofs.Assets.{One, one-starts, one-still, one-met, many, one}
+use Rattle.resolve_mints.proofs.many_assets.Statement.{statement}
+use Rattle.resolve_mints.proofs.many_assets.Tie as tie
 
 abbrev Inv-loop : tie.InvT-loop
 Inv-loop nodes end asset₀ next₀ asset next = Span nodes 0 1 end × (0 < next) × (next ≤ end) × ((W : View nodes 0) → One (treeOf W) asset next)

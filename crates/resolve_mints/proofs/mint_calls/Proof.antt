@@ -12,9 +12,9 @@ use Rattle.nodes.specs.Shown.{treeOf}
 use Rattle.nodes.proofs.Shapes.{allIn}
 use Rattle.nodes.proofs.Steps.{Walk, items-on, below-starts, below-moves, below-done}
 use Rattle.nodes.proofs.Cursors.{Over, before-last, past-last, still-over, on-to}
-use Rattle.resolve_calls.specs.Called.{Minting}
-use Rattle.resolve_calls.proofs.mint_calls.Statement.{statement}
-use Rattle.resolve_calls.proofs.mint_calls.Tie as tie
+use Rattle.resolve_mints.specs.Minted.{Minting}
+use Rattle.resolve_mints.proofs.mint_calls.Statement.{statement}
+use Rattle.resolve_mints.proofs.mint_calls.Tie as tie
 
 abbrev Inv-loop : tie.InvT-loop
 Inv-loop nodes mint out₀ count end total₀ children₀ out total children =

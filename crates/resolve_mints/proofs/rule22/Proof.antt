@@ -1,22 +1,29 @@
 -- `rule22` meets its contract: at each return, what the tests passed so far say of the rule.
 use borrow.Author.Needs.{needs}
-use mathlib.Core.Path.{_≡_, _∙_, sym}
+use mathlib.Core.Path.{_≡_, refl, _∙_, sym}
 use mathlib.Core.Logic.{inr}
 use Prim.Native.Nat.{_+_}
+use native.Mathlib.Omega.{arith}
+use Rattle.rules.specs.Sweep.{has}
 use Rattle.rules.specs.Words.{mint-asset}
+use Rattle.rules.specs.Vocabulary.{rec}
+use Rattle.rules.specs.Resolve.{rule22}
+use Rattle.records.proofs.Sweep.{asks-other}
 use Rattle.nodes.specs.Shown.{View, In, treeOf}
-use Rattle.resolve_calls.proofs.Laws.{callee, other-call, other-22, ident-22}
-use Rattle.resolve_calls.proofs.rule22.Statement.{statement}
-use Rattle.resolve_calls.proofs.rule22.Tie as tie
+use Rattle.nodes.proofs.Shapes.{first-in}
+use Rattle.resolve_mints.proofs.Laws.{other-22, ident-22}
+use Rattle.resolve_mints.proofs.rule22.Statement.{statement}
+use Rattle.resolve_mints.proofs.rule22.Tie as tie
 
 returns : tie.Need-returns
-returns c = λ T. other-call (treeOf (T .view)) _ 22 _ (λ e. c .if1 .taken (c .before .kind .ensures (T .view) ∙ e))
+returns c = λ T. asks-other (rule22 (treeOf (T .view))) (c .before .before .before .args .p) (rec 22 (c .before .before .before .args .p) 0) (λ e. c .if1 .taken (c .before .kind .ensures (T .view) ∙ e))
 
 is-call : (c : tie.Else1) (W : View (c .before .before .before .args .nodes .now) (c .before .before .before .args .base)) → treeOf W .kind (c .before .before .before .args .p) ≡ 43
 is-call c W = sym (c .before .kind .ensures W) ∙ c .if1 .left
 
 has-callee : (c : tie.Else1) → In (c .before .before .before .args .nodes .now) (c .before .before .before .args .base) (c .before .before .before .args .p + 1)
-has-callee c = let d = c .before .before .before in let W = d .pre .0 .view in callee W (d .pre .1) (is-call c W)
+unfolding has
+has-callee c = let d = c .before .before .before in let W = d .pre .0 .view in first-in W (d .pre .1) 43 (is-call c W) (omega arith) refl
 
 returns-2 : tie.Need-returns-2
 returns-2 c = λ T. let W = T .view in other-22 (treeOf W) _ (is-call (c .before .before) W) (λ e. c .if2 .taken (c .before .kind2 .ensures W ∙ e))

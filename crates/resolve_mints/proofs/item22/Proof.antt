@@ -10,10 +10,10 @@ use Rattle.records.proofs.Sweep.{keep-one, keep-none}
 use Rattle.nodes.specs.Shown.{View, treeOf}
 use Rattle.nodes.proofs.Fall.{not-true, not-false}
 use Rattle.nodes.proofs.Flat.{flat-calls}
-use Rattle.resolve_calls.proofs.Assets.{bodied-is}
-use Rattle.resolve_calls.proofs.Lent.{lent-minting}
-use Rattle.resolve_calls.proofs.item22.Statement.{statement}
-use Rattle.resolve_calls.proofs.item22.Tie as tie
+use Rattle.resolve_mints.proofs.Assets.{bodied-is}
+use Rattle.resolve_mints.proofs.Laws.{lent-minting}
+use Rattle.resolve_mints.proofs.item22.Statement.{statement}
+use Rattle.resolve_mints.proofs.item22.Tie as tie
 
 told : (c : tie.After-is-bodied) (W : View (c .before .before .before .before .args .nodes .now) 0) → has (treeOf W .kind (c .before .before .before .before .args .item)) bodied ≡ c .is-bodied .result
 told c W = ap (λ (k : ℕ). has k bodied) (sym (c .before .kind .ensures W)) ∙ sym (c .is-bodied .ensures)
