@@ -13,7 +13,7 @@ use Rattle.rules.specs.Words.{Q-Asset, split, mint}
 use Rattle.rules.specs.Vocabulary.{down, someBelow, atBottom, named, isField, isIdent, typed}
 use Rattle.rules.specs.Linear.{produces, isRow, placeOf, isAlias}
 use Rattle.records.proofs.Sweep.{has-one, has-not}
-use Rattle.linear_tracked.specs.Rows.{isMaker, is60}
+use Rattle.linear_parts.specs.Parts.{isMaker, is60}
 
 either-false : (b : Bool) → either b false ≡ b
 either-false true = refl

@@ -15,12 +15,12 @@ use Rattle.rules.specs.Linear.{produces, isRow}
 use Rattle.rules.proofs.Reflect.{one-fact, Tells, tells-as, tells-both, tells-either, tells-ltb, tells-someBelow, tells-named, narrow}
 use Rattle.rules.proofs.Admitted.{admitted}
 use Rattle.nodes.specs.Shown.{treeOf}
-use Rattle.linear_tracked.specs.declared.Words.{Words}
-use Rattle.linear_tracked.specs.Rows.{rowsBefore, firstRow, PartAt}
-use Rattle.linear_tracked.proofs.Questions.{isNamedRow}
-use Rattle.linear_tracked.proofs.Lists.{tells-self, before-at, at-before}
-use Rattle.linear_tracked.proofs.Noted.{FirstPasses, first-passes}
-use Rattle.linear_tracked.proofs.Row.{tells-row}
+use Rattle.linear_parts.specs.declared.Words.{Words}
+use Rattle.linear_parts.specs.Parts.{rowsBefore, firstRow, PartAt}
+use Rattle.linear_parts.proofs.Questions.{isNamedRow}
+use Rattle.linear_parts.proofs.Lists.{tells-self, before-at, at-before}
+use Rattle.linear_parts.proofs.Noted.{FirstPasses, first-passes}
+use Rattle.linear_parts.proofs.Row.{tells-row}
 
 module _ {nodes first : List ℕ} {words : Words} {p : ℕ} (T : PartAt nodes words p first) (k : treeOf (T .known .view) .kind p ≡ 25) (w : List ℕ) where
   abbrev t : Tree

@@ -15,8 +15,8 @@ use Rattle.nodes.specs.Shown.{View, In, Worded, treeOf}
 use Rattle.nodes.proofs.Parts.{past, few}
 use Rattle.nodes.proofs.Shapes.{within, ends-within}
 use Rattle.nodes.proofs.Turns.{named-at}
-use Rattle.linear_tracked.proofs.Parts.{let-value, callee-in, param-long}
-use Rattle.linear_tracked.proofs.Lists.{tells-self}
+use Rattle.linear_parts.proofs.Parts.{let-value, callee-in, param-long}
+use Rattle.linear_parts.proofs.Lists.{tells-self}
 
 pub tells-row : (t : Tree) (x : ℕ) → Tells (isRow t x) ((List·Memᴰ (t .kind x) param × (typed t Q-Asset x ≡ true)) ⊎ (List·Memᴰ (t .kind x) «let» × (produces t x ≡ true)))
 unfolding isRow

@@ -1,6 +1,6 @@
 -- `asset_words` meets its contract: the numbers are those of the words.
-use Rattle.linear_tracked.proofs.asset_words.Statement.{statement}
-use Rattle.linear_tracked.proofs.asset_words.Tie as tie
+use Rattle.linear_parts.proofs.asset_words.Statement.{statement}
+use Rattle.linear_parts.proofs.asset_words.Tie as tie
 
 returns : tie.Need-returns
 returns c = λ s w. (w .asset-is, w .methods-are .split-is, w .builtins-are .mint-is)

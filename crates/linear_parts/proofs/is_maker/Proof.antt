@@ -8,9 +8,9 @@ use Rattle.rules.specs.Words.{split}
 use Rattle.nodes.specs.Shown.{View, treeOf}
 use Rattle.nodes.proofs.Shapes.{field-name}
 use Rattle.nodes.proofs.Fields.{field-worded}
-use Rattle.linear_tracked.proofs.Questions.{maker-field, maker-ident, maker-other}
-use Rattle.linear_tracked.proofs.is_maker.Statement.{statement}
-use Rattle.linear_tracked.proofs.is_maker.Tie as tie
+use Rattle.linear_parts.proofs.Questions.{maker-field, maker-ident, maker-other}
+use Rattle.linear_parts.proofs.is_maker.Statement.{statement}
+use Rattle.linear_parts.proofs.is_maker.Tie as tie
 
 is-one : (c : tie.At-match-keys1) (W : View (c .before .before .before .args .nodes .now) 0) → treeOf W .kind (c .before .before .before .args .x) ≡ 42
 is-one c W = sym (c .before .kind .ensures W) ∙ c .match .keys1

@@ -3,9 +3,9 @@ use native.Mathlib.Omega.{arith}
 use borrow.Author.Needs.{needs}
 use mathlib.Core.Path.{_∙_, sym}
 use Rattle.nodes.specs.Shown.{treeOf}
-use Rattle.linear_tracked.proofs.Questions.{place-let, place-param}
-use Rattle.linear_tracked.proofs.place_of.Statement.{statement}
-use Rattle.linear_tracked.proofs.place_of.Tie as tie
+use Rattle.linear_parts.proofs.Questions.{place-let, place-param}
+use Rattle.linear_parts.proofs.place_of.Statement.{statement}
+use Rattle.linear_parts.proofs.place_of.Tie as tie
 
 returns : tie.Need-returns
 returns c = (λ W. place-let (treeOf W) _ (sym (c .before .kind .ensures W) ∙ c .if1 .taken), omega arith)

@@ -1,4 +1,4 @@
--- The children of a Let, a Call and a Param, where they stand.
+-- The children of a Let, a Call and a Param, where they stand; and a part of an entry.
 use Prim.Native.Nat.{ℕ, _+_, _<_, _≤_}
 use mathlib.Core.Path.{_≡_, refl, ap, _∙_, sym}
 use mathlib.Core.Bool.{Bool, true, false}
@@ -19,6 +19,8 @@ use Rattle.nodes.specs.Shown.{View, In, Worded, treeOf}
 use Rattle.nodes.proofs.Parts.{inside, there, past, formed}
 use Rattle.nodes.proofs.Shapes.{first-inside, within}
 use Rattle.nodes.proofs.Turns.{named-at}
+use Rattle.linear_parts.specs.declared.Words.{Words}
+use Rattle.linear_parts.specs.Parts.{PartAt}
 
 -- the one kind of the family of types
 type-test : ℕ → Bool
@@ -90,3 +92,7 @@ module _ {part : List ℕ} {b p : ℕ} (W : View part b) (i : In part b p) where
   pub type-name : treeOf W .kind p ≡ 10 → Worded part b (p + 3)
   unfolding has
   type-name k = let f = param-type k in let d : p + 2 + 1 ≡ p + 3 = omega arith in rw d at (named-at W (f .0) (omega arith, refl) (f .1))
+
+-- part p of an entry stands in it
+pub part-in : {nodes : List ℕ} {words : Words} {p : ℕ} {first : List ℕ} → PartAt nodes words p first → In nodes 0 p
+part-in T = within (T .known .view) (T .here) (T .after) (T .inside)

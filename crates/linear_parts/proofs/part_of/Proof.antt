@@ -2,11 +2,11 @@
 use native.Mathlib.Omega.{arith}
 use mathlib.Core.Path.{_≡_, sym, _∙_}
 use Rattle.nodes.specs.Shown.{View, treeOf}
-use Rattle.linear_tracked.proofs.Parts.{type-name}
-use Rattle.linear_tracked.proofs.Questions.{part-other, part-param}
-use Rattle.linear_tracked.proofs.Walk.{part-in}
-use Rattle.linear_tracked.proofs.part_of.Statement.{statement}
-use Rattle.linear_tracked.proofs.part_of.Tie as tie
+use Rattle.linear_parts.proofs.Parts.{type-name}
+use Rattle.linear_parts.proofs.Questions.{part-other, part-param}
+use Rattle.linear_parts.proofs.Parts.{part-in}
+use Rattle.linear_parts.proofs.part_of.Statement.{statement}
+use Rattle.linear_parts.proofs.part_of.Tie as tie
 
 kind-requires : tie.Need-kind-requires
 kind-requires c κs = part-in (c .before .pre)

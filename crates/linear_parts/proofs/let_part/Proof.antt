@@ -7,12 +7,12 @@ use mathlib.Core.Logic.{inr}
 use borrow.Author.Tests.{eq-eqb, ne-eqb}
 use Rattle.nodes.specs.Shown.{View, In, treeOf}
 use Rattle.nodes.proofs.Shapes.{within-or}
-use Rattle.linear_tracked.proofs.Parts.{let-value, callee-in}
-use Rattle.linear_tracked.proofs.Questions.{let-over, let-other, let-call, let-ident}
-use Rattle.linear_tracked.proofs.Walk.{part-in}
-use Rattle.linear_tracked.proofs.Alias.{named-is}
-use Rattle.linear_tracked.proofs.let_part.Statement.{statement}
-use Rattle.linear_tracked.proofs.let_part.Tie as tie
+use Rattle.linear_parts.proofs.Parts.{let-value, callee-in}
+use Rattle.linear_parts.proofs.Questions.{let-over, let-other, let-call, let-ident}
+use Rattle.linear_parts.proofs.Parts.{part-in}
+use Rattle.linear_parts.proofs.Alias.{named-is}
+use Rattle.linear_parts.proofs.let_part.Statement.{statement}
+use Rattle.linear_parts.proofs.let_part.Tie as tie
 
 add-down : tie.Need-add-down
 add-down c = let h = part-in (c .before .pre .0) .2 in omega arith
