@@ -11,7 +11,8 @@ use Rattle.rules.specs.Vocabulary.{Rec, rec, below}
 use Rattle.rules.specs.Linear.{isRow, placeOf, marks, uses, rule60}
 use Rattle.nodes.specs.Shown.{number, treeOf}
 use Rattle.linear_occurrences.specs.Counted.{Clear}
-use Rattle.linear_tracked.specs.Rows.{rowsOf, Placed}
+use Rattle.linear_parts.specs.Parts.{rowsOf}
+use Rattle.linear_tracked.specs.Rows.{Placed}
 use Rattle.linear_rows.specs.Tallies.{marksAt, countAt}
 use Rattle.linear.specs.Seen.{Clean}
 use Rattle.linear_table.specs.declared.Row.{Row}

@@ -29,9 +29,9 @@ fn first_groups(nodes: &[u8], items: Items, mint: usize, state: &Marks, out: &mu
 {
     let fields = resolve_names::group20(nodes, out, 0);
     let events = resolve_names::group21(items.event, nodes, out, fields);
-    let mints = resolve_calls::group22(nodes, mint, out, events);
+    let mints = resolve_mints::group22(nodes, mint, out, events);
     let overloads = resolve_overloads::group23(nodes, out, mints);
-    let names = resolve_names::group24(nodes, state, out, overloads);
+    let names = resolve_params::group24(nodes, state, out, overloads);
     resolve_events::group30(nodes, items, out, names)
 }
 
