@@ -5,6 +5,7 @@ use mathlib.Core.Path.{_≡_}
 use mathlib.Core.List.{List, [], _++_}
 use lib.Dec.{ltb, eqb}
 use lib.ListN.{length, getD}
+use Rattle.image.specs.Maxima.{maxRows}
 use Rattle.image.specs.Pick.{pick}
 use Rattle.rules.specs.Vocabulary.{Rec, rec, only}
 use Rattle.rules.specs.Linear.{second}
@@ -23,9 +24,9 @@ secondAt s r = getD s (3 * r + 2) 0
 -- row r has the marks M r and the counted occurrences U r
 pub record Tallied (M U : ℕ → List ℕ) (s : List ℕ) : Type 0 where
   pub size : length s ≡ 1533
-  pub marks : (r : ℕ) → r < 511 → marksAt s r ≡ length (M r)
-  pub counts : (r : ℕ) → r < 511 → countAt s r ≡ length (U r)
-  pub seconds : (r : ℕ) → r < 511 → secondAt s r ≡ second (U r)
+  pub marks : (r : ℕ) → r < maxRows → marksAt s r ≡ length (M r)
+  pub counts : (r : ℕ) → r < maxRows → countAt s r ≡ length (U r)
+  pub seconds : (r : ℕ) → r < maxRows → secondAt s r ≡ second (U r)
 
 -- no row has any
 abbrev pub Blank : List ℕ → Type 0

@@ -3,6 +3,7 @@ use Prim.Native.Nat.{ℕ, _+_, _-_, _<_, _≤_}
 use mathlib.Core.Bool.{Bool, false}
 use mathlib.Core.List.{List, _++_}
 use lib.Dec.{eqb}
+use Rattle.image.specs.Maxima.{maxRows}
 use Rattle.rules.specs.Sweep.{run, keep, has}
 use Rattle.rules.specs.Tree.{Tree, param, burns, ident}
 use Rattle.rules.specs.Words.{Q-Asset}
@@ -18,17 +19,17 @@ use Rattle.linear_rows.specs.Tallies.{marksAt, countAt, Tallied}
 
 -- each row has room for one more mark, for one more counted occurrence
 pub record SpareMarks (s : List ℕ) : Type 0 where
-  pub more-marks : (r : ℕ) → r < 511 → marksAt s r < 65535
+  pub more-marks : (r : ℕ) → r < maxRows → marksAt s r < 65535
 
 pub record SpareCounts (s : List ℕ) : Type 0 where
-  pub more-counts : (r : ℕ) → r < 511 → countAt s r < 65535
+  pub more-counts : (r : ℕ) → r < maxRows → countAt s r < 65535
 
 -- a table that notes for each name one of at most 511 rows, from 1 on, or 0
 pub record OnRows (nodes : List ℕ) (base : ℕ) (rows : List ℕ) : Type 0 where
   pub view : View nodes base
   pub row-of : List ℕ → ℕ
   pub noted : Places (view .image) row-of rows
-  pub few : (w : List ℕ) → row-of w ≤ 511
+  pub few : (w : List ℕ) → row-of w ≤ maxRows
 
 -- x, on row r, if the table F notes that row for the word w
 abbrev pub onRow : (List ℕ → ℕ) → ℕ → List ℕ → ℕ → List ℕ
@@ -69,7 +70,7 @@ pub record Using (nodes : List ℕ) (base : ℕ) (reader : List Bool) (rows : Li
   pub counting : Counting nodes base reader
   pub row-of : List ℕ → ℕ
   pub noted : Places (counting .view .image) row-of rows
-  pub few : (w : List ℕ) → row-of w ≤ 511
+  pub few : (w : List ℕ) → row-of w ≤ maxRows
 
 -- a function that is lent the rows puts x on the row that the table notes for a word, as a mark or as a counted occurrence
 abbrev pub Marks-one : {nodes : List ℕ} {base : ℕ} {rows : List ℕ} → OnRows nodes base rows → ℕ → Lent (List ℕ) → Type 0
