@@ -32,9 +32,9 @@ pub fn tally(
     ensures { λ _. ⌜ ((T : RowsNoted (old nodes) words entry (old reader) (old burned) (old first) (old last) (old tallies)) → Tallies-entry T (new burned) (new flags) (new tallies)) ⌝ }
 {
     let asset = words.asset;
-    let start = nodes::first_statement(nodes, 0, entry);
+    let start = items::first_statement(nodes, 0, entry);
     linear_uses::mark_burned(asset, nodes, entry, start, burned, first, tallies);
-    let body = nodes::statements(nodes, 0, entry, start);
+    let body = items::statements(nodes, 0, entry, start);
     linear_uses::count_uses(body, start, reader, flags, last, tallies);
 }
 

@@ -1,10 +1,10 @@
 // The resolve pass: codes 20 to 40 of document 01, as the pass's part of the list, the groups in order.
 use image::Image;
+use items::Items;
 use names::Words;
 use nodes::Cursor;
 use nodes::ENTRY;
 use nodes::GENESIS;
-use nodes::Items;
 use nodes::Marks;
 use nodes::NAME;
 use resolve_clauses::Rule;
@@ -18,7 +18,8 @@ ghost use Rattle.records.specs.Words.{old, new};
 ghost use Rattle.records.specs.Records.{Adds};
 ghost use Rattle.nodes.specs.Shown.{In};
 ghost use Rattle.nodes.specs.First.{Head};
-ghost use Rattle.nodes.specs.Items.{ItemsOf, NoItem};
+ghost use Rattle.nodes.specs.Items.{NoItem};
+ghost use Rattle.items.specs.Found.{ItemsOf};
 ghost use Rattle.names.specs.Spelled.{Looked, looked};
 ghost use Rattle.resolve.specs.Tables.{LentFirst, CallTables, Called, ResolveTables, item33, entryCalls, item35, firstGroups, lentFirst, worded, ofEntry, lent, CleansParams};
 
@@ -52,8 +53,8 @@ fn genesis(
         return count;
     }
     let total = resolve_clauses::assigns(nodes, item, state, out, count);
-    let first = nodes::first_statement(nodes, 0, item);
-    let body = nodes::statements(nodes, 0, item, first);
+    let first = items::first_statement(nodes, 0, item);
+    let body = items::statements(nodes, 0, item, first);
     resolve_calls::calls34(body, first, builtin, method, out, total)
 }
 
@@ -105,7 +106,7 @@ fn entry_calls(
     ensures { λ _. ⌜ CleansParams nodes address fields params builtin method ⌝ }
 {
     resolve_calls::mark_params(nodes, entry, first, address, true, params);
-    let body = nodes::statements(nodes, 0, entry, first);
+    let body = items::statements(nodes, 0, entry, first);
     if resolve_calls::is_clean(body, first, fields, params, builtin, method) {
         resolve_calls::mark_params(nodes, entry, first, address, false, params);
         return count;
@@ -137,7 +138,7 @@ fn entry(
     if nodes::kind(nodes, 0, item) != ENTRY {
         return count;
     }
-    let first = nodes::first_statement(nodes, 0, item);
+    let first = items::first_statement(nodes, 0, item);
     let signed = resolve_clauses::signers(
         Rule(NAME, false, 35),
         nodes,
@@ -251,7 +252,7 @@ pub fn list(nodes: &[u8], words: Words, state: &Marks, out: &mut [u16]) -> usize
     requires { ⌜ Looked (now nodes) words (now state) ⌝ }
     ensures { λ r. ⌜ Adds (looked resolve nodes words state) (2 ^ 38) out 0 r ⌝ }
 {
-    let items = nodes::find_items(nodes);
+    let items = items::find_items(nodes);
     let builtins = words.builtins;
     let first = first_groups(nodes, items, builtins.mint_asset, state, out);
     let total = resolve_deployer::group32(nodes, words.deployer, out, first);

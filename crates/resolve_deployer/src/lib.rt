@@ -66,7 +66,7 @@ fn entry32(nodes: &[u8], entry: usize, deployer: &Marks, out: &mut [u16], count:
     requires { ⌜ Deployed (now nodes) 0 (now deployer) × IsEntry (now nodes) entry × (count < 2 ^ 44) ⌝ }
     ensures { λ r. ⌜ Adds (deployed (λ t. deployerIn t entry) nodes 0 deployer) (2 ^ 23) out count r ⌝ }
 {
-    let first = nodes::first_statement(nodes, 0, entry);
+    let first = items::first_statement(nodes, 0, entry);
     let signed = resolve_clauses::signers(
         Rule(NAME, true, 32),
         nodes,
@@ -76,7 +76,7 @@ fn entry32(nodes: &[u8], entry: usize, deployer: &Marks, out: &mut [u16], count:
         out,
         count,
     );
-    let body = nodes::statements(nodes, 0, entry, first);
+    let body = items::statements(nodes, 0, entry, first);
     let end = nodes::end(nodes, 0, entry);
     let said = resolve_clauses::words(
         Rule(IDENT, true, 32),

@@ -1,10 +1,10 @@
 // The Emits of a contract: codes 30 and 31 of document 01, item by item.
 use image::Image;
+use items::Items;
 use nodes::Cursor;
 use nodes::ENTRY;
 use nodes::EVENT;
 use nodes::GENESIS;
-use nodes::Items;
 use places::Note;
 use places::Places;
 ghost use mathlib.Core.Path.{_≡_};
@@ -16,7 +16,8 @@ ghost use Rattle.rules.specs.Resolve.{emits, group30};
 ghost use Rattle.records.specs.Words.{old};
 ghost use Rattle.records.specs.Records.{Adds};
 ghost use Rattle.nodes.specs.Shown.{View, In, treeOf};
-ghost use Rattle.nodes.specs.Items.{NoItem, ItemsOf};
+ghost use Rattle.nodes.specs.Items.{NoItem};
+ghost use Rattle.items.specs.Found.{ItemsOf};
 ghost use Rattle.places.specs.declared.Note.the-variants.{Last};
 ghost use Rattle.places.specs.Places.{Notes, notesBelow};
 ghost use Rattle.resolve_emits.specs.Emitted.{Emitted};
@@ -63,8 +64,8 @@ fn item(
     if nodes::kind(nodes, 0, item) != kind {
         return count;
     }
-    let first = nodes::first_statement(nodes, 0, item);
-    let body = nodes::statements(nodes, 0, item, first);
+    let first = items::first_statement(nodes, 0, item);
+    let body = items::statements(nodes, 0, item, first);
     statements(body, first, nodes, last, out, count)
 }
 

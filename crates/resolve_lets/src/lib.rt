@@ -158,7 +158,7 @@ pub fn let_rules(
         return count;
     }
     places::note_parts(Note::First, LET, nodes, entry, lets);
-    let body = nodes::statements(nodes, 0, entry, first);
+    let body = items::statements(nodes, 0, entry, first);
     let total = statements(body, first, state, params, lets, out, count);
     places::note_parts(Note::Off, LET, nodes, entry, lets);
     total

@@ -45,11 +45,11 @@ fn item22(nodes: &[u8], item: usize, mint: usize, out: &mut [u16], count: usize)
     requires { ⌜ Minting (now nodes) 0 mint × In (now nodes) 0 item × (0 < item) × (count < 2 ^ 50) ⌝ }
     ensures { λ r. ⌜ Adds (minted (item22 item) nodes 0 mint) 2048 out count r ⌝ }
 {
-    if !nodes::is_bodied(nodes::kind(nodes, 0, item)) {
+    if !items::is_bodied(nodes::kind(nodes, 0, item)) {
         return count;
     }
-    let first = nodes::first_statement(nodes, 0, item);
-    let body = nodes::statements(nodes, 0, item, first);
+    let first = items::first_statement(nodes, 0, item);
+    let body = items::statements(nodes, 0, item, first);
     calls22(body, first, mint, out, count)
 }
 

@@ -73,7 +73,7 @@ fn entry(
     if nodes::kind(nodes, 0, item) != ENTRY {
         return count;
     }
-    let first = nodes::first_statement(nodes, 0, item);
+    let first = items::first_statement(nodes, 0, item);
     places::note_heads(Note::First, PARAM, nodes, item, first, params);
     let named = parameters(nodes, item, first, state, params, out, count);
     let total = resolve_lets::let_rules(nodes, item, first, state, params, lets, out, named);

@@ -5,12 +5,12 @@ use Prim.Native.Nat.{ℕ, _+_, _-_, _<_, _≤_}
 use mathlib.Core.Path.{_≡_, refl, sym, ap, _∙_}
 use Rattle.rules.specs.Sweep.{has}
 use Rattle.rules.specs.Tree.{statement as statements}
 use Rattle.nodes.specs.Shown.{View, treeOf}
 use Rattle.nodes.proofs.Spans.{Span, span-below, child-on}
 use Rattle.nodes.proofs.Flat.{None, none-on, starts}
 use Rattle.nodes.proofs.Cursors.{Over, before-last, past-last, still-over, on-to}
-use Rattle.nodes.proofs.first_statement.Statement.{statement}
-use Rattle.nodes.proofs.first_statement.Tie as tie
+use Rattle.items.proofs.first_statement.Statement.{statement}
+use Rattle.items.proofs.first_statement.Tie as tie
 
 abbrev Inv-loop : tie.InvT-loop
 Inv-loop nodes base entry to children₀ children = Over base to children × Span nodes base (entry + 1) to × (entry < children .at) × (children .at ≤ to) × ((W : View nodes base) → None (treeOf W) entry (children .at))

@@ -4,10 +4,10 @@ use native.Mathlib.Omega.{arith}
 use Rattle.image.specs.Pick.{every}
 use Rattle.rules.specs.Sweep.{has}
 use Rattle.rules.specs.Tree.{statement as statements}
 use Rattle.nodes.proofs.Ranges.{ranged, into}
 use Rattle.nodes.proofs.Flat.{out-of}
-use Rattle.nodes.proofs.is_statement.Statement.{statement}
-use Rattle.nodes.proofs.is_statement.Tie as tie
+use Rattle.items.proofs.is_statement.Statement.{statement}
+use Rattle.items.proofs.is_statement.Tie as tie
 
 returns : tie.Need-returns
 unfolding ranged every has

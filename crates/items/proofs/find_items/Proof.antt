@@ -6,15 +6,15 @@ use mathlib.Core.Path.{_≡_, refl, sym}
 use mathlib.Core.Bool.{true, false, true≢false}
 use Rattle.rules.specs.Sweep.{has}
 use Rattle.rules.specs.Tree.{event, genesis}
 use Rattle.nodes.specs.Shown.{View, In, treeOf}
 use Rattle.nodes.specs.Items.{NoneUpTo, SomeUpTo}
 use Rattle.nodes.proofs.Parts.{past}
 use Rattle.nodes.proofs.Shapes.{within}
 use Rattle.nodes.proofs.Spans.{child-on}
 use Rattle.nodes.proofs.Cursors.{Over, before-last, past-last, stands, still-over, on-to}
-use Rattle.nodes.proofs.Glance.{glanced, glanced-some, within-end}
-use Rattle.nodes.proofs.find_items.Statement.{statement}
-use Rattle.nodes.proofs.find_items.Tie as tie
+use Rattle.items.proofs.Glance.{glanced, glanced-some, within-end}
+use Rattle.items.proofs.find_items.Statement.{statement}
+use Rattle.items.proofs.find_items.Tie as tie
 
 abbrev Inv-loop : tie.InvT-loop
 Inv-loop nodes to items₀ children₀ items children = Over 0 to children × (1 ≤ children .at) × (children .at ≤ to) × (items .event ≡ false → (W : View nodes 0) → NoneUpTo (treeOf W) event (children .at)) × (items .genesis ≡ false → (W : View nodes 0) → NoneUpTo (treeOf W) genesis (children .at)) × (items .event ≡ true → (W : View nodes 0) → SomeUpTo (treeOf W) event (children .at)) × (items .genesis ≡ true → (W : View nodes 0) → SomeUpTo (treeOf W) genesis (children .at))

@@ -3,10 +3,10 @@ use native.Mathlib.Omega.{arith}
 use borrow.Author.Needs.{needs}
 use mathlib.Core.Path.{refl}
 use Prim.Native.Nat.{_<_, _≤_}
 use Rattle.nodes.proofs.Parts.{lent-shown}
 use Rattle.nodes.proofs.Spans.{Span, span-body}
-use Rattle.nodes.proofs.statements.Statement.{statement}
-use Rattle.nodes.proofs.statements.Tie as tie
+use Rattle.items.proofs.statements.Statement.{statement}
+use Rattle.items.proofs.statements.Tie as tie
 
 sub-from : tie.Need-sub-from
 sub-from c = let s = span-body (c .before .pre) (c .before .pre .view) refl in omega arith
