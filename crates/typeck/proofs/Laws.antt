@@ -24,7 +24,7 @@ use Rattle.rules.specs.All.{offences}
 use Rattle.rules.specs.Passes as passes
 use Rattle.rules.specs.Answers as rules
 use Rattle.rules.proofs.Answers.{refusal-most, length-words, pass-refused, pass-admitted, list-refused, list-short, list-listed, buffer-refused, buffer-short, buffer-listed}
-use Rattle.rules.proofs.Passes.{judges-resolve, judges-access, judges-linear}
+use Rattle.rules.proofs.Passes.{Judges, judges-resolve, judges-access, judges-linear}
 use Rattle.records.specs.Records.{words, Laid, Added}
 use Rattle.records.proofs.Laws.{laid-join, laid-long}
 use Rattle.nodes.proofs.Admission.{refused-number}
@@ -83,17 +83,17 @@ judged-refused pass s k e =
       case = ap answer.Image d ∙ case-image (refusal s) n (refusal-most s) ∙ sym (ap verdictOf (pass-refused pass s n));
     }
 
-first-part : (p : passes.PassRules) (s : List ℕ) → 9 ≤ p .least → passes.Judges (tree s) p → verdictBy s (p .part (tree s)) ≡ verdictOf (rules.verdict s (p .part (tree s)))
+first-part : (p : passes.PassRules) (s : List ℕ) → 9 ≤ p .least → Judges (tree s) p → verdictBy s (p .part (tree s)) ≡ verdictOf (rules.verdict s (p .part (tree s)))
 first-part p s h j = ap (verdictBy s) (sym (j .part)) ∙ first-case s p (offences (tree s)) h ∙ ap (λ (l : List Rec). verdictOf (rules.verdict s l)) (j .part)
 
-judged-by : (p : passes.PassRules) (s : List ℕ) {v : Verdict} → 9 ≤ p .least → refusal s ≡ 0 → passes.Judges (tree s) p → v ≡ verdictBy s (p .part (tree s)) → Judged (p .part) s v
+judged-by : (p : passes.PassRules) (s : List ℕ) {v : Verdict} → 9 ≤ p .least → refusal s ≡ 0 → Judges (tree s) p → v ≡ verdictBy s (p .part (tree s)) → Judged (p .part) s v
 judged-by p s h e j f = record {
   numbers = ap answerOf f ∙ first-numbers s (p .part (tree s)) ∙ sym (pass-admitted (p .part) s e);
   case = f ∙ first-part p s h j ∙ sym (ap verdictOf (pass-admitted (p .part) s e));
 }
 
 -- also where the case is named by the numbers
-pub judged-numbers : (p : passes.PassRules) (s : List ℕ) {v : Verdict} → 9 ≤ p .least → refusal s ≡ 0 → passes.Judges (tree s) p → v ≡ verdictOf (rules.verdict s (p .part (tree s))) → Judged (p .part) s v
+pub judged-numbers : (p : passes.PassRules) (s : List ℕ) {v : Verdict} → 9 ≤ p .least → refusal s ≡ 0 → Judges (tree s) p → v ≡ verdictOf (rules.verdict s (p .part (tree s))) → Judged (p .part) s v
 judged-numbers p s h e j f = judged-by p s h e j (f ∙ sym (first-part p s h j))
 
 pub judged-admitted : (p : Pass) (s : List ℕ) {v : Verdict} → refusal s ≡ 0 → v ≡ verdictBy s (recordsOf p (tree s)) → Judged (recordsOf p) s v
