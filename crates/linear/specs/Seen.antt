@@ -17,8 +17,8 @@ use Rattle.names.specs.declared.Words.{Words as AllWords}
 use Rattle.names.specs.Spelled.{WordsOf}
 use Rattle.places.specs.Places.{Places}
 use Rattle.linear_occurrences.specs.Counted.{isReader, Clear}
-use Rattle.linear_tracked.specs.declared.Words.{Words}
-use Rattle.linear_tracked.specs.Rows.{KnownWords, rowsOf, firstRow, lastRow}
+use Rattle.linear_parts.specs.declared.Words.{Words}
+use Rattle.linear_parts.specs.Parts.{KnownWords, rowsOf, firstRow, lastRow}
 use Rattle.linear_rows.specs.Tallies.{Tallied, Blank}
 
 -- what the pass is lent: the nodes of an admitted image, and the numbers of the words that the rules mention

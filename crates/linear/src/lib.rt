@@ -1,9 +1,9 @@
 // The linear pass: codes 60, 61 and 62 of document 01, entry by entry, as the pass's part of the list.
 use image::Image;
 use linear_occurrences::Flags;
+use linear_parts::Words;
 use linear_rows::Tallies;
 use linear_tracked::Cells;
-use linear_tracked::Words;
 use nodes::Cursor;
 use nodes::ENTRY;
 use nodes::Marks;
@@ -128,7 +128,7 @@ pub fn list(nodes: &[u8], words: names::Words, out: &mut [u16]) -> usize
     requires { ⌜ LookedWords (now nodes) words ⌝ }
     ensures { λ r. ⌜ Adds (λ (T : LookedWords (old nodes) words). linear (treeOf (T .view))) (3070 * 2048) out 0 r ⌝ }
 {
-    let asset_words = linear_tracked::asset_words(words);
+    let asset_words = linear_parts::asset_words(words);
     let mut reader = [false; Image::NAMES];
     linear_occurrences::mark_readers(words, &mut reader);
     let mut burned = [false; Image::NAMES];

@@ -22,10 +22,10 @@ use Rattle.rules.specs.Passes as passes
 use Rattle.rules.proofs.Answers.{refusal-most}
 use Rattle.rules.proofs.Passes.{judges-linear}
 use Rattle.records.proofs.Sweep.{run-parts, run-one, run-below}
-use Rattle.typeck.specs.declared.Verdict.{Verdict}
-use Rattle.typeck.specs.declared.Verdict.the-variants as answer
+use Rattle.passes.specs.declared.Verdict.{Verdict}
+use Rattle.passes.specs.declared.Verdict.the-variants as answer
 use Rattle.typeck.specs.Face.{Judged, verdictOf}
-use Rattle.typeck.proofs.Laws.{judged-refused, judged-numbers}
+use Rattle.passes.proofs.Laws.{judged-refused, judged-numbers}
 use Rattle.linear_table.specs.declared.Row.{Row}
 use Rattle.linear_table.specs.Table.{noRow, rowAt, rowIn, rowOf, oneRow, entryRows, itemRows, entry60s, Cut, TableOf}
 use Rattle.linear_lent.specs.declared.Found.{Found}

@@ -8,7 +8,7 @@ use Rattle.image.specs.Pick.{pick}
 use Rattle.image.specs.Admit.{refusal}
 use Rattle.rules.specs.Linear.{linear}
 use Rattle.rules.specs.Answers.{Answer, spanFrom, spanTo}
-use Rattle.typeck.specs.declared.Verdict.{Verdict}
+use Rattle.passes.specs.declared.Verdict.{Verdict}
 use Rattle.typeck.specs.Face.{Judged}
 use Rattle.linear_table.specs.declared.Row.{Row}
 use Rattle.linear_table.specs.Table.{noRow, rowAt, rowIn}

@@ -15,7 +15,7 @@ use Rattle.nodes.proofs.Fall.{not-so}
 use Rattle.nodes.proofs.Turns.{set-fresh}
 use Rattle.model.specs.Assets.{Assets, Inside}
 use Rattle.model.proofs.Inner.{inner-none, inner-one}
-use Rattle.linear_tracked.proofs.Lists.{tells-self}
+use Rattle.linear_parts.proofs.Lists.{tells-self}
 use Rattle.linear_rows.specs.Tallies.{Tallied, onRow, burnAt, burnedIn, Burning, Unburned}
 use Rattle.linear_rows.proofs.Tally.{tally-as}
 

@@ -3,7 +3,7 @@ use Prim.Native.Nat.{ℕ, _+_, _*_, _-_, _<_, _≤_}
 use mathlib.Core.Path.{_≡_}
 use mathlib.Core.Bool.{Bool}
 use mathlib.Core.List.{List, [], _∷_, _++_}
-use lib.ListN.{length, getD, set}
+use lib.ListN.{length, getD, set, replicate}
 use Rattle.image.specs.Admit.{refusal}
 use Rattle.rules.specs.Sweep.{run, keep, has}
 use Rattle.rules.specs.Tree.{Tree, tree, entry as entries, «let», param-let}
@@ -11,7 +11,8 @@ use Rattle.rules.specs.Vocabulary.{Rec, rec, below}
 use Rattle.rules.specs.Linear.{isRow, placeOf, marks, uses, rule60}
 use Rattle.nodes.specs.Shown.{number, treeOf}
 use Rattle.linear_occurrences.specs.Counted.{Clear}
-use Rattle.linear_tracked.specs.Rows.{rowsOf, Placed}
+use Rattle.linear_parts.specs.Parts.{rowsOf}
+use Rattle.linear_tracked.specs.Rows.{Placed}
 use Rattle.linear_rows.specs.Tallies.{marksAt, countAt}
 use Rattle.linear.specs.Seen.{Clean}
 use Rattle.linear_table.specs.declared.Row.{Row}
@@ -72,11 +73,16 @@ pub record Cut (s cells : List ℕ) (r : ℕ) : Type 0 where
   pub whole : r ≡ 0 → upto ≡ tree s .end 0
   pub some : 0 < r → (upto < tree s .end 0) × ((m : List Rec) × (item60s (tree s) upto ≡ rec 60 r 0 ∷ m))
 
+-- the table of an image that is refused by number n: the last cell has it, and all others are 0
+unfoldable pub refusedTable : ℕ → List ℕ
+refusedTable n = set (replicate 2046 0) 2045 n
+
 -- the table of an image: two more cells have the place of the first 60, and the number of the refusal
 pub record TableOf (s cells : List ℕ) : Type 0 where
   pub size : length cells ≡ 2046
   pub refused : getD cells 2045 0 ≡ refusal s
   pub cut : refusal s ≡ 0 → Cut s cells (getD cells 2044 0)
+  pub no-rows : 0 < refusal s → cells ≡ refusedTable (refusal s)
 
 -- Within the crate: a row from what its entry's tables have of it, and an entry's rows so
 abbrev pub rowBy : List ℕ → ℕ → ℕ → ℕ → ℕ → Row

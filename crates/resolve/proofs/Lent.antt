@@ -15,13 +15,15 @@ use Rattle.nodes.proofs.Names.{marks-none}
 use Rattle.names.specs.declared.Words.{Words}
 use Rattle.names.specs.Spelled.{Looked}
 use Rattle.model.specs.Assets.{AssetWords}
+use Rattle.resolve_mints.specs.Minted.{Minting}
 use Rattle.resolve_calls.specs.Called as calls
 use Rattle.resolve_calls.specs.Called.{isBuiltin, isMethod}
 use Rattle.resolve_clauses.specs.Said as clauses
+use Rattle.resolve_deployer.specs.Deployed.{DeployerIs}
 use Rattle.resolve.specs.Tables.{LentFirst, CallTables, Called, ResolveTables, firstGroups}
 
 module _ {nodes : List ℕ} {mint : ℕ} {state : List Bool} (T : LentFirst nodes mint state) where
-  abbrev pub by-mint : calls.Minting nodes 0 mint
+  abbrev pub by-mint : Minting nodes 0 mint
   by-mint = record { view = T .view; mint-number = T .mint-number }
 
   abbrev pub by-name : State nodes 0 state
@@ -60,7 +62,7 @@ module _ {nodes : List ℕ} {words : Words} {state : List Bool} (T : Looked node
   abbrev pub first-of : LentFirst nodes (words .builtins .«mint_asset») state
   first-of = record { view = T .view; root = T .root; mint-number = T .words-are .builtins-are .mint-asset-is; state-marks = T .state-marks }
 
-  abbrev pub deployer-of : clauses.DeployerIs nodes (words .deployer)
+  abbrev pub deployer-of : DeployerIs nodes (words .deployer)
   deployer-of = record { view = T .view; is = T .words-are .deployer-is }
 
   abbrev pub typing-of : calls.AddressTyping nodes (words .address)

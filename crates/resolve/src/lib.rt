@@ -29,9 +29,9 @@ fn first_groups(nodes: &[u8], items: Items, mint: usize, state: &Marks, out: &mu
 {
     let fields = resolve_names::group20(nodes, out, 0);
     let events = resolve_names::group21(items.event, nodes, out, fields);
-    let mints = resolve_calls::group22(nodes, mint, out, events);
+    let mints = resolve_mints::group22(nodes, mint, out, events);
     let overloads = resolve_overloads::group23(nodes, out, mints);
-    let names = resolve_names::group24(nodes, state, out, overloads);
+    let names = resolve_params::group24(nodes, state, out, overloads);
     resolve_events::group30(nodes, items, out, names)
 }
 
@@ -254,6 +254,6 @@ pub fn list(nodes: &[u8], words: Words, state: &Marks, out: &mut [u16]) -> usize
     let items = nodes::find_items(nodes);
     let builtins = words.builtins;
     let first = first_groups(nodes, items, builtins.mint_asset, state, out);
-    let total = resolve_clauses::group32(nodes, words.deployer, out, first);
+    let total = resolve_deployer::group32(nodes, words.deployer, out, first);
     last_groups(nodes, words, items.genesis, state, out, total)
 }

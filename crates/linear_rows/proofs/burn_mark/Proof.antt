@@ -8,7 +8,7 @@ use Rattle.rules.specs.Sweep.{has}
 use Rattle.rules.specs.Linear.{isBurned}
 use Rattle.nodes.specs.Shown.{View, In, Worded, treeOf}
 use Rattle.nodes.proofs.Turns.{named-at}
-use Rattle.linear_tracked.proofs.Parts.{param-type}
+use Rattle.linear_parts.proofs.Parts.{param-type}
 use Rattle.linear_rows.specs.Tallies.{Burning, burnedIn}
 use Rattle.linear_rows.proofs.Burns.{assets-of, burned-none, burned-one, burn-other, burn-not, burn-so}
 use Rattle.linear_rows.proofs.burn_mark.Statement.{statement}

@@ -11,7 +11,8 @@ use Rattle.records.proofs.Sweep.{sweep-long}
 use Rattle.nodes.specs.Shown.{treeOf}
 use Rattle.nodes.proofs.Steps.{Walk, items-on, below-starts, below-moves, below-done}
 use Rattle.nodes.proofs.Cursors.{Over, before-last, past-last, still-over, on-to}
-use Rattle.resolve_events.specs.Emitted.{Events, emitRules}
+use Rattle.resolve_events.specs.Events.{Events}
+use Rattle.resolve_emits.specs.Emitted.{emitRules}
 use Rattle.resolve_events.proofs.Lent.{is-item}
 use Rattle.resolve_events.proofs.emits.Statement.{statement}
 use Rattle.resolve_events.proofs.emits.Tie as tie
