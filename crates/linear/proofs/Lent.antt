@@ -12,7 +12,8 @@ use Rattle.nodes.specs.First.{Starts}
 use Rattle.linear_occurrences.proofs.Entry.{counting-of}
 use Rattle.linear_parts.specs.declared.Words.{Words}
 use Rattle.linear_parts.specs.Parts.{rowsOf, firstRow, lastRow}
-use Rattle.linear_rows.specs.Tallies.{Tallied, Unburned, Using, burnsOn, usesOn}
+use Rattle.linear_rows.specs.Tallies.{Tallied}
+use Rattle.linear_uses.specs.Uses.{Unburned, Using, burnsOn, usesOn}
 use Rattle.linear.specs.Seen.{RowsNoted, rowMarks, rowUses}
 use Rattle.linear.proofs.Select.{first-few, last-few, marks-on, uses-on}
 

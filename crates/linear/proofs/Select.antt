@@ -21,7 +21,7 @@ use Rattle.linear_occurrences.proofs.Entry.{uses-are}
 use Rattle.linear_parts.specs.Parts.{rowsOf, firstRow, lastRow}
 use Rattle.linear_parts.proofs.Noted.{FirstPasses, first-passes, LastPasses, last-passes, Passes}
 use Rattle.linear_tracked.proofs.Reading.{first-of-name, last-of-name}
-use Rattle.linear_rows.specs.Tallies.{burnsOn, usesOn}
+use Rattle.linear_uses.specs.Uses.{burnsOn, usesOn}
 use Rattle.linear.specs.Seen.{rowMarks, rowUses}
 
 -- three tests, one after another, in either order

@@ -33,9 +33,9 @@ pub fn tally(
 {
     let asset = words.asset;
     let start = nodes::first_statement(nodes, 0, entry);
-    linear_rows::mark_burned(asset, nodes, entry, start, burned, first, tallies);
+    linear_uses::mark_burned(asset, nodes, entry, start, burned, first, tallies);
     let body = nodes::statements(nodes, 0, entry, start);
-    linear_rows::count_uses(body, start, reader, flags, last, tallies);
+    linear_uses::count_uses(body, start, reader, flags, last, tallies);
 }
 
 // 60, 61 and 62 in an item, if it is an Entry. The tables are left as they were found.

@@ -4,6 +4,7 @@ use mathlib.Core.Path.{_≡_}
 use mathlib.Core.Bool.{true}
 use mathlib.Core.List.{List, [], _++_}
 use lib.ListN.{length, getD}
+use Rattle.image.specs.Maxima.{maxRows}
 use Rattle.rules.specs.Sweep.{keep, has}
 use Rattle.rules.specs.Tree.{Tree, tree, entry as entries, «let»}
 use Rattle.rules.specs.Vocabulary.{Rec, Below, named}
@@ -21,8 +22,8 @@ at60 p t e = keep (has (t .kind p) «let») (rule60 t e) p
 
 -- the table holds the places of the n rows xs, and the tables by name their numbers
 pub record Rows (s xs : List ℕ) (n : ℕ) (places first last : List ℕ) : Type 0 where
-  pub size : length places ≡ 511
-  pub few : n ≤ 511
+  pub size : length places ≡ maxRows
+  pub few : n ≤ maxRows
   pub count : n ≡ length xs
   pub place-of : (r : ℕ) → r < n → getD places r 0 ≡ placeOf (tree s) (getD xs r 0)
   pub first-rows : Places s (firstRow (tree s) xs) first

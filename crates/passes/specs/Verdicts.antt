@@ -7,14 +7,10 @@ use lib.Dec.{eqb, ltb}
 use Rattle.image.specs.Pick.{pick}
 use Rattle.rules.specs.Tree.{Tree}
 use Rattle.rules.specs.Vocabulary.{Rec}
-use Rattle.rules.specs.Resolve.{resolve}
-use Rattle.rules.specs.Access.{access}
-use Rattle.rules.specs.Linear.{linear}
 use Rattle.rules.specs.Answers as rules
-use Rattle.passes.specs.declared.Pass.{Pass}
-use Rattle.passes.specs.declared.Pass.the-variants as pass
 use Rattle.passes.specs.declared.Verdict.{Verdict}
 use Rattle.passes.specs.declared.Verdict.the-variants as verdict
+pub use Rattle.passes.specs.First.{recordsOf, verdictBy}
 
 -- the answer a has the numbers n, and is the case that they name
 pub record Stands {A N : Type 0} (numbersOf : A → N) (caseOf : N → A) (n : N) (a : A) : Type 0 where
@@ -34,15 +30,3 @@ verdictOf a =
 
 abbrev pub Judged : (Tree → List Rec) → List ℕ → Verdict → Type 0
 Judged pass s v = Stands answerOf verdictOf (rules.passAnswer pass s) v
-
--- The records of each pass, and the case that a list of records gives, by its first
-
-abbrev pub recordsOf : Pass → Tree → List Rec
-recordsOf pass.Resolve = resolve
-recordsOf pass.Access = access
-recordsOf pass.Linear = linear
-
-abbrev pub verdictBy : List ℕ → List Rec → Verdict
-verdictBy s l =
-    rules.byFirst verdict.Accepted
-    (λ (r : Rec). verdict.Refused (r .code) (r .place) (rules.spanFrom s (r .place)) (rules.spanTo s (r .place))) l

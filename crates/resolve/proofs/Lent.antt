@@ -37,15 +37,15 @@ by-typing T = record { view = T .view; address-number = T .address-number }
 
 module _ {nodes : List ℕ} {address : ℕ} {state declared known fields params builtin method : List Bool} (T : ResolveTables nodes address state declared known fields params builtin method) where
   abbrev pub by-signers : clauses.OneTable nodes 0 state
-  by-signers = record { view = T .called .view; says = isState (treeOf (T .called .view)); tells = T .state-marks }
+  by-signers = record { view = T .ofEntry .view; says = isState (treeOf (T .ofEntry .view)); tells = T .state-marks }
 
   abbrev pub by-clauses : clauses.AssetMarks nodes state declared known
-  by-clauses = record { view = T .called .view; state-marks = T .state-marks; declared-marks = T .declared-marks; known-marks = T .known-marks }
+  by-clauses = record { view = T .ofEntry .view; state-marks = T .state-marks; declared-marks = T .declared-marks; known-marks = T .known-marks }
 
   -- the tables with another that has no parameter marked
-  abbrev pub cleaned : {marked : List Bool} → Marks (T .called .view .image) (λ w. false) marked → ResolveTables nodes address state declared known fields marked builtin method
+  abbrev pub cleaned : {marked : List Bool} → Marks (T .ofEntry .view .image) (λ w. false) marked → ResolveTables nodes address state declared known fields marked builtin method
   cleaned M = record {
-    called = record { view = T .called .view; address-number = T .called .address-number; field-marks = T .called .field-marks; clean = M; builtin-marks = T .called .builtin-marks; method-marks = T .called .method-marks };
+    ofEntry = record { view = T .ofEntry .view; address-number = T .ofEntry .address-number; field-marks = T .ofEntry .field-marks; clean = M; builtin-marks = T .ofEntry .builtin-marks; method-marks = T .ofEntry .method-marks };
     state-marks = T .state-marks;
     declared-marks = T .declared-marks;
     known-marks = T .known-marks;
@@ -78,7 +78,7 @@ module _ {nodes : List ℕ} {words : Words} {state : List Bool} (T : Looked node
     abbrev pub tables-of : {declared known fields : List Bool} → Marks image (isDeclaredAsset (treeOf (T .view))) declared → Marks image (isKnownAsset (treeOf (T .view))) known → Marks image (isStateTyped (treeOf (T .view)) Q-Address) fields
         → ResolveTables nodes (words .address) state declared known fields (replicate 1024 false) builtin method
     tables-of d k a = record {
-      called = record { view = T .view; address-number = T .words-are .address-is; field-marks = a; clean = none; builtin-marks = b; method-marks = m };
+      ofEntry = record { view = T .view; address-number = T .words-are .address-is; field-marks = a; clean = none; builtin-marks = b; method-marks = m };
       state-marks = T .state-marks;
       declared-marks = d;
       known-marks = k;

@@ -20,7 +20,7 @@ ghost use Rattle.nodes.specs.Shown.{In};
 ghost use Rattle.nodes.specs.First.{Head};
 ghost use Rattle.nodes.specs.Items.{ItemsOf, NoItem};
 ghost use Rattle.names.specs.Spelled.{Looked, looked};
-ghost use Rattle.resolve.specs.Tables.{LentFirst, CallTables, Called, ResolveTables, item33, entryCalls, item35, firstGroups, lentFirst, worded, called, lent, CleansParams};
+ghost use Rattle.resolve.specs.Tables.{LentFirst, CallTables, Called, ResolveTables, item33, entryCalls, item35, firstGroups, lentFirst, worded, ofEntry, lent, CleansParams};
 
 // 20, 21, 22, 23, 24 to 29, 30 and 31; `mint_asset` has the number `mint`.
 fn first_groups(nodes: &[u8], items: Items, mint: usize, state: &Marks, out: &mut [u16]) -> usize
@@ -101,7 +101,7 @@ fn entry_calls(
     count: usize,
 ) -> usize
     requires { ⌜ Called (now nodes) address (now fields) (now params) (now builtin) (now method) × Head (now nodes) 0 entry first × (count < 2 ^ 48) ⌝ }
-    ensures { λ r. ⌜ Adds (called (entryCalls entry) nodes address fields params builtin method) 4096 out count r ⌝ }
+    ensures { λ r. ⌜ Adds (ofEntry (entryCalls entry) nodes address fields params builtin method) 4096 out count r ⌝ }
     ensures { λ _. ⌜ CleansParams nodes address fields params builtin method ⌝ }
 {
     resolve_calls::mark_params(nodes, entry, first, address, true, params);

@@ -36,8 +36,8 @@ abbrev pub at30 : ℕ → Tree → List Rec
 at30 p t = keep (has (t .kind p) emit) (emitRules t) p
 
 -- what F says of the tree of the nodes that are lent, by each of these
-abbrev pub noted : (Tree → List Rec) → (nodes : Lent (List ℕ)) (base : ℕ) (last : Lent (List ℕ)) → EventNotes (old nodes) base (old last) → List Rec
-noted F nodes base last T = F (treeOf (T .view))
+abbrev pub emitting : (Tree → List Rec) → (nodes : Lent (List ℕ)) (base : ℕ) (last : Lent (List ℕ)) → EventNotes (old nodes) base (old last) → List Rec
+emitting F nodes base last T = F (treeOf (T .view))
 
 abbrev pub emitted : (Tree → List Rec) → (nodes : Lent (List ℕ)) (base : ℕ) (area last : Lent (List ℕ)) → Emitted (old nodes) base (old area) (old last) → List Rec
 emitted F nodes base area last T = F (treeOf (T .body .view))

@@ -11,7 +11,7 @@ ghost use Rattle.rules.specs.Resolve.{rule30, rule31};
 ghost use Rattle.records.specs.Words.{old};
 ghost use Rattle.records.specs.Records.{Adds, Asks};
 ghost use Rattle.nodes.specs.Shown.{View, In, treeOf};
-ghost use Rattle.resolve_emits.specs.Emitted.{IsKind, EventNotes, Emitted, at30, noted, emitted};
+ghost use Rattle.resolve_emits.specs.Emitted.{IsKind, EventNotes, Emitted, at30, emitting, emitted};
 
 // The number of arguments of an Emit: a cursor over its children after the Name, moved past one child at each step.
 fn arguments(area: &[u8], emit: usize) -> usize
@@ -43,7 +43,7 @@ fn parameters(nodes: &[u8], event: usize) -> usize
 // 30 at an Emit: its event is not declared.
 fn rule30(nodes: &[u8], base: usize, emit: usize, last: &Places) -> bool
     requires { ⌜ EventNotes (now nodes) base (now last) × IsKind (now nodes) base emit 26 ⌝ }
-    ensures { λ r. ⌜ Asks (noted (λ t. rule30 t emit) nodes base last) 30 emit r ⌝ }
+    ensures { λ r. ⌜ Asks (emitting (λ t. rule30 t emit) nodes base last) 30 emit r ⌝ }
 {
     places::at(last, nodes, base, emit + 1) == 0
 }

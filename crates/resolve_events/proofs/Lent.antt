@@ -31,9 +31,9 @@ unfolding allIn has
 is-item k b = ⊎-elim (λ (e : k ≡ 7). rw e refl) (λ (e : k ≡ 9). rw e refl) (is-bodied k b)
 
 -- an item's statements, lent
-abbrev pub lent : {nodes part last : List ℕ} {f k item : ℕ} (T : Events nodes last) → In nodes 0 item → 0 < item → treeOf (T .noted .view) .kind item ≡ k → Bodied k → Starts (T .noted .view) item f → Shown (T .noted .view .image) part f (treeOf (T .noted .view) .end item)
+abbrev pub lent : {nodes part last : List ℕ} {f k item : ℕ} (T : Events nodes last) → In nodes 0 item → 0 < item → treeOf (T .emitting .view) .kind item ≡ k → Bodied k → Starts (T .emitting .view) item f → Shown (T .emitting .view .image) part f (treeOf (T .emitting .view) .end item)
     → Emitted part f nodes last
-lent T i z e k S P = record { body = statements-of (T .noted .view) i z (is-bodied _ (subst Bodied (sym e) k)) S P; lasts = T .noted .lasts; upto = T .noted .view .upto; shown = T .noted .view .shown; root = T .root }
+lent T i z e k S P = record { body = statements-of (T .emitting .view) i z (is-bodied _ (subst Bodied (sym e) k)) S P; lasts = T .emitting .lasts; upto = T .emitting .view .upto; shown = T .emitting .view .shown; root = T .root }
 
 -- the Emits from the first statement of an item on are those of the item
 pub item-emits : {nodes : List ℕ} {p f : ℕ} (W : View nodes 0) → Starts W p f → run (λ i. keep (has (treeOf W .kind i) emit) (emitRules (treeOf W)) i) f (treeOf W .end p - f) ≡ below (treeOf W) emit p (emitRules (treeOf W))
@@ -42,4 +42,4 @@ item-emits {p = p} {f = f} W S = run-below-later (treeOf W) emit (emitRules (tre
 
 -- the contract, with the last event of each name noted in a fresh table
 abbrev pub events-of : {nodes last : List ℕ} (W : View nodes 0) → In nodes 0 0 → places.Noted (λ (W : View nodes 0). W .image) (λ W. notesBelow note.Last (treeOf W) event 0) (replicate 1024 0) last → Events nodes last
-events-of W i f = record { noted = record { view = W; lasts = f W (λ w. 0) (places-none (W .image) (W .shown .admitted)) }; root = i }
+events-of W i f = record { emitting = record { view = W; lasts = f W (λ w. 0) (places-none (W .image) (W .shown .admitted)) }; root = i }

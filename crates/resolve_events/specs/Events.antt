@@ -16,7 +16,7 @@ Bodied k = has k bodied ≡ true
 
 -- the whole area, with the last event of each name
 pub record Events (area last : List ℕ) : Type 0 where
-  pub noted : EventNotes area 0 last
+  pub emitting : EventNotes area 0 last
   pub root : In area 0 0
 
 -- 30 and 31 in an item of kind k
@@ -28,4 +28,4 @@ abbrev pub swept30 : (nodes : Lent (List ℕ)) (base : ℕ) (area last : Lent (L
 swept30 nodes base area last T = run (λ p. at30 p (treeOf (T .body .view))) base (T .body .view .upto - base)
 
 abbrev pub events : (Tree → List Rec) → (nodes last : Lent (List ℕ)) → Events (old nodes) (old last) → List Rec
-events F nodes last T = F (treeOf (T .noted .view))
+events F nodes last T = F (treeOf (T .emitting .view))

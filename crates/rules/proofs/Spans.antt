@@ -7,7 +7,7 @@ use mathlib.Core.List.{List, [], _∷_, map}
 use native.Mathlib.Omega.{arith}
 use borrow.Author.Tests.{ltb-true, ltb-false}
 use lib.Dec.{ltb, leb, eqb}
-use lib.ListN.{length, getD, take, drop, length-take, length-drop, List·getD-eq-default}
+use lib.ListN.{length, getD, drop, length-take, length-drop, List·getD-eq-default}
 use lib.Seq.{getD-take, getD-drop, ext-getD}
 use Rattle.image.specs.Pick.{pick, every, somewhere, count}
 use Rattle.image.specs.Maxima.{maxDepth}
@@ -15,9 +15,9 @@ use Rattle.image.specs.Node.{half, fullWord, kindOf, nameOf, endOf}
 use Rattle.image.specs.Text.{slice, textOf}
 use Rattle.image.specs.Table.{fits, children}
 use Rattle.image.specs.Tree.{tilesFrom, kidsFrom, childrenFit, nameFits, nodeOk, treeOk, endsPast, shallow, depthOk, carriesName, usedIn, usedOk}
-use Rattle.image.specs.Admit.{nodeCount, nameCount, namesAt, textAt, nodesOf, namesOf, textPart, lengthOk, versionOk, countsOk, layoutOk, headerRefusal, bodyRefusal, refusal}
-use Rattle.rules.specs.Tree.{Tree, tree, treeIn}
-use Rattle.rules.specs.Spans.{SpanByte, ButForSpans, Unjudged}
+use Rattle.image.specs.Admit.{nodeCount, nameCount, namesAt, textAt, nodesOf, namesOf, textPart, layoutOk, headerRefusal, bodyRefusal, refusal}
+use Rattle.rules.specs.Tree.{tree, treeIn}
+use Rattle.rules.specs.Spans.{ButForSpans, Unjudged}
 
 -- Two node areas of the same fields
 

@@ -8,6 +8,7 @@ use mathlib.Core.List.{List, [], _∷_, _++_}
 use lib.Dec.{ltb, eqb}
 use lib.ListN.{length, replicate, take, drop}
 use lib.Seq.{sets}
+use Rattle.image.specs.Maxima.{maxRows}
 use Rattle.image.specs.Pick.{pick}
 use Rattle.image.specs.Admit.{refusal, nodesOf}
 use Rattle.image.specs.Node.{fromOf, toOf}
@@ -145,7 +146,7 @@ InTurn =
 
 -- A table of tracked rows that the linear pass is lent by its public form, always 511 long: as it was on refusal 1 to 8, else all blank
 abbrev pub lentRows : {R : Type 0} → R → List ℕ → List R → List R
-lentRows blank s rows = pick (eqb (refusal s) 0) (replicate 511 blank) rows
+lentRows blank s rows = pick (eqb (refusal s) 0) (replicate maxRows blank) rows
 
 -- A verdict as plain numbers: its number, its place and the place's two span words; those of all passes
 abbrev pub row : Answer → List ℕ

@@ -18,6 +18,7 @@ use mathlib.Core.Bool.{Bool, true, false}
 use mathlib.Core.List.{List, [], _∷_, _++_, List·Memᴰ}
 use mathlib.Core.Logic.{_⊎_, _↔_}
 use lib.ListN.{length, replicate}
+use Rattle.image.specs.Maxima.{maxRows}
 use Rattle.image.specs.Admit.{refusal}
 use Rattle.rules.specs.Tree.{Tree, tree}
 use Rattle.rules.specs.Spelling.{bytes}
@@ -90,7 +91,7 @@ pub record Demand-2 : Type 1 where
   pub no : EachQuestion (λ q Q. (s w : List ℕ) → IsAdmitted s → (ask q s w ≡ replied false) ↔ (Q (tree s) w → ⊥))
   pub names : EqualNumbers
   pub unjudged : Unjudged
-  pub lent : {R : Type 0} (blank : R) (s : List ℕ) (z : List R) → IsAdmitted s → lentRows blank s z ≡ replicate 511 blank
+  pub lent : {R : Type 0} (blank : R) (s : List ℕ) (z : List R) → IsAdmitted s → lentRows blank s z ≡ replicate maxRows blank
 
 -- Demand 3. An admitted image has a full list (specs/All: each offence of the passes, and nothing else, in the stated order), only
 -- one, and each offence stands in it once. Given room, the list answers how many there are and lays them from the buffer's start;

@@ -1,10 +1,10 @@
 -- Document 01, "tempting and wrong": three contracts that tell the right reading from the wrong one. They stand in the table of the
 -- crate `patterns` too; here, since a fact and its sweep that are changed together still agree, and then only a contract says no.
 use mathlib.Core.Path.{_≡_, refl}
-use mathlib.Core.List.{List, [], _∷_, _++_}
+use mathlib.Core.List.{[], _∷_, _++_}
 use Rattle.rules.specs.Spelling.{bytes}
 use Rattle.rules.specs.Tree.{Tree, tree}
-use Rattle.rules.specs.Record.{Rec, rec}
+use Rattle.rules.specs.Record.{rec}
 use Rattle.rules.specs.Access.{access}
 use Rattle.rules.specs.Linear.{linear}
 use Rattle.rules.specs.Packed.{Nodes, Labelled, unlabelled, place, imageOf, a-contract, a-state, a-field-decl, an-entry, a-param, a-type, a-name, an-expr, an-emit, an-assign, an-int, an-ident, a-field, a-call, a-checked}

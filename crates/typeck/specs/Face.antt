@@ -7,10 +7,10 @@ use mathlib.Core.List.{List}
 use lib.Dec.{eqb}
 use lib.ListN.{length}
 use Rattle.image.specs.Pick.{pick}
-use Rattle.image.specs.Admit.{refusal}
 use Rattle.rules.specs.Tree.{Tree}
 use Rattle.rules.specs.Vocabulary.{Rec}
 use Rattle.rules.specs.Answers as rules
+unfoldable pub use Rattle.rules.specs.Answers.{partAnswer, partWords}
 pub use Rattle.passes.specs.Verdicts.{Stands, answerOf, verdictOf, Judged}
 use Rattle.typeck.specs.declared.Reply.{Reply}
 use Rattle.typeck.specs.declared.Reply.the-variants as reply
@@ -51,12 +51,6 @@ listedOf a = pick (eqb (a .number) 0) (listed.Records (a .records)) (listed.Refu
 abbrev pub ListedAll : List ℕ → List ℕ → Listed → List ℕ → Type 0
 ListedAll s words r words′ = Stands listingOf listedOf (rules.listAnswer s (length words)) r × (words′ ≡ rules.listBuffer s words)
 
--- a pass's part of it: all its records are counted, those that fit are written from the buffer's start
-unfoldable pub partAnswer : (Tree → List Rec) → List ℕ → rules.ListReply
-partAnswer pass s = pick (eqb (refusal s) 0) (rules.listHas (rules.partCount pass s)) (rules.listRefused (refusal s))
-
-unfoldable pub partWords : (Tree → List Rec) → List ℕ → List ℕ → List ℕ
-partWords pass s words = pick (eqb (refusal s) 0) (rules.partBuffer pass s words) words
-
+-- a pass's part of it
 abbrev pub ListedPart : (Tree → List Rec) → List ℕ → List ℕ → Listed → List ℕ → Type 0
 ListedPart pass s words r words′ = Stands listingOf listedOf (partAnswer pass s) r × (words′ ≡ partWords pass s words)

@@ -19,7 +19,7 @@ use Rattle.resolve_events.proofs.emits.Tie as tie
 
 abbrev Inv-loop : tie.InvT-loop
 Inv-loop kind nodes last out₀ count end total₀ children₀ out total children =
-    Over 0 end children × Walk (λ (T : Events nodes last). T .noted .view) (kind ∷ []) (λ T i. let t = treeOf (T .noted .view) in below t emit i (emitRules t)) 1 end 4096 out₀ count out total (children .at)
+    Over 0 end children × Walk (λ (T : Events nodes last). T .emitting .view) (kind ∷ []) (λ T i. let t = treeOf (T .emitting .view) in below t emit i (emitRules t)) 1 end 4096 out₀ count out total (children .at)
 
 abbrev μ-loop : tie.MeasureT-loop
 μ-loop kind nodes last out₀ count end total₀ children₀ out total children = end - children .at

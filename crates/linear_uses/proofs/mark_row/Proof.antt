@@ -4,10 +4,10 @@ use native.Mathlib.Omega.{arith}
 use Prim.Native.Nat.{_+_, _*_, _-_, _<_, _≤_}
 use mathlib.Core.Path.{_≡_, sym, _∙_}
 use Rattle.nodes.specs.Shown.{treeOf}
-use Rattle.linear_rows.specs.Tallies.{OnRows}
-use Rattle.linear_rows.proofs.Tally.{tally-none, tally-mark}
-use Rattle.linear_rows.proofs.mark_row.Statement.{statement}
-use Rattle.linear_rows.proofs.mark_row.Tie as tie
+use Rattle.linear_uses.specs.Uses.{OnRows}
+use Rattle.linear_uses.proofs.Tally.{tally-none, tally-mark}
+use Rattle.linear_uses.proofs.mark_row.Statement.{statement}
+use Rattle.linear_uses.proofs.mark_row.Tie as tie
 
 row-is : (c : tie.Else1) (T : OnRows (c .before .before .before .args .nodes .now) 0 (c .before .before .before .args .rows .now)) → (c .before .at .result ≡ T .row-of (treeOf (T .view) .text (c .before .before .before .args .p))) × (0 < c .before .at .result) × (c .before .at .result ≤ 511)
 row-is c T =

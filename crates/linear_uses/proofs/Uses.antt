@@ -1,5 +1,5 @@
 -- One more counted occurrence on a row, the second of these, and the occurrences that a sweep has counted ("Counted occurrences" of document 01).
-use Prim.Native.Nat.{ℕ, zero, suc, _+_, _*_, _-_, _≤_}
+use Prim.Native.Nat.{ℕ, _+_, _*_, _-_, _≤_}
 use mathlib.Core.Path.{_≡_, refl, ap, _∙_, sym}
 use mathlib.Core.Bool.{Bool, true, false, true≢false}
 use mathlib.Core.List.{List, [], _∷_, _++_, append-nil}
@@ -17,7 +17,9 @@ use Rattle.rules.specs.Vocabulary.{alone}
 use Rattle.rules.specs.Linear.{isCounted, second}
 use Rattle.records.proofs.Sweep.{run-none, run-on, keep-none, keep-one, has-not}
 use Rattle.nodes.specs.Shown.{Worded, In, View, treeOf}
-use Rattle.linear_rows.specs.Tallies.{Tallied, SpareCounts, OnRows, Using, onRow, useAt}
+use Rattle.linear_rows.specs.Tallies.{Tallied}
+use Rattle.linear_uses.specs.Uses.{SpareCounts, OnRows, Using, onRow, useAt}
+use Rattle.linear_uses.proofs.Tally.{keep-few, run-few}
 
 -- the second of a list with one more
 second-is : (l : List ℕ) (p : ℕ) → length l ≡ 1 → second (l ++ p ∷ []) ≡ p
@@ -114,17 +116,6 @@ keep-also : (b : Bool) (q : ℕ → Bool) (f : ℕ → ℕ → List ℕ) (p : �
 unfolding keep
 keep-also true q f p = refl
 keep-also false q f p = refl
-
-keep-few : (b : Bool) (f : ℕ → List ℕ) (p : ℕ) → length (f p) ≤ 1 → length (keep b f p) ≤ 1
-unfolding keep
-keep-few true f p l = l
-keep-few false f p l = omega arith
-
--- each node contributes one at most
-run-few : (f : ℕ → List ℕ) (a n : ℕ) → ((i : ℕ) → length (f i) ≤ 1) → length (run f a n) ≤ n
-unfolding run
-run-few f a zero h = omega arith
-run-few f a (suc n) h = let i = run-few f a n h in let j = h (a + n) in omega (arith, length-append (run f a n) (f (a + n)), i, j)
 
 module _ (t : Tree) (e : ℕ) (F : List ℕ → ℕ) (base : ℕ) where
   -- none at the start; one more node

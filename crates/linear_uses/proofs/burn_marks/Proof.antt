@@ -9,9 +9,9 @@ use Rattle.nodes.proofs.Spans.{Span}
 use Rattle.nodes.proofs.Until.{until-span, until-on, until-skips}
 use Rattle.nodes.proofs.Head.{until-head}
 use Rattle.nodes.proofs.Cursors.{Over, before-last, past-last, still-over, on-to}
-use Rattle.linear_rows.proofs.Burnt.{Burnt, burnt-starts, burnt-spare, burnt-on, burnt-done}
-use Rattle.linear_rows.proofs.burn_marks.Statement.{statement}
-use Rattle.linear_rows.proofs.burn_marks.Tie as tie
+use Rattle.linear_uses.proofs.Burnt.{Burnt, burnt-starts, burnt-spare, burnt-on, burnt-done}
+use Rattle.linear_uses.proofs.burn_marks.Statement.{statement}
+use Rattle.linear_uses.proofs.burn_marks.Tie as tie
 
 abbrev Inv-loop : tie.InvT-loop
 Inv-loop asset nodes entry to burned rows tallies₀ children₀ tallies children = Over 0 to children × Span nodes 0 (entry + 1) to × Burnt nodes entry asset burned rows to tallies (children .at)

@@ -5,10 +5,10 @@ use Prim.Native.Nat.{_-_, _<_, _≤_}
 use mathlib.Core.Path.{_≡_, sym, _∙_}
 use borrow.Author.Tests.{not-true, not-false}
 use Rattle.nodes.specs.Shown.{treeOf}
-use Rattle.linear_rows.specs.Tallies.{OnRows}
-use Rattle.linear_rows.proofs.Uses.{not-used, no-row, use-second, use-other}
-use Rattle.linear_rows.proofs.use_row.Statement.{statement}
-use Rattle.linear_rows.proofs.use_row.Tie as tie
+use Rattle.linear_uses.specs.Uses.{OnRows}
+use Rattle.linear_uses.proofs.Uses.{not-used, no-row, use-second, use-other}
+use Rattle.linear_uses.proofs.use_row.Statement.{statement}
+use Rattle.linear_uses.proofs.use_row.Tie as tie
 
 -- the row of the word, whichever image the nodes show
 row-is : (c : tie.After-at) (T : OnRows (c .before .before .before .args .nodes .now) (c .before .before .before .args .base) (c .before .before .before .args .rows .now)) → T .row-of (treeOf (T .view) .text (c .before .before .before .args .p)) ≡ c .at .result

@@ -2,10 +2,10 @@
 use Rattle.nodes.proofs.Naming.{naming}
 use Rattle.nodes.specs.Shown.{treeOf}
 use Rattle.nodes.proofs.Turns.{taken-off}
-use Rattle.linear_rows.specs.Tallies.{burnedIn}
-use Rattle.linear_rows.proofs.Burns.{burning-of}
-use Rattle.linear_rows.proofs.mark_burned.Statement.{statement}
-use Rattle.linear_rows.proofs.mark_burned.Tie as tie
+use Rattle.linear_uses.specs.Uses.{burnedIn}
+use Rattle.linear_uses.proofs.Burns.{burning-of}
+use Rattle.linear_uses.proofs.mark_burned.Statement.{statement}
+use Rattle.linear_uses.proofs.mark_burned.Tie as tie
 
 mark-parts-requires : tie.Need-mark-parts-requires
 mark-parts-requires c κs = (naming .burns, c .before .before .pre .1)

@@ -16,8 +16,9 @@ use Rattle.nodes.proofs.Turns.{set-fresh}
 use Rattle.model.specs.Assets.{Assets, Inside}
 use Rattle.model.proofs.Inner.{inner-none, inner-one}
 use Rattle.linear_parts.proofs.Lists.{tells-self}
-use Rattle.linear_rows.specs.Tallies.{Tallied, onRow, burnAt, burnedIn, Burning, Unburned}
-use Rattle.linear_rows.proofs.Tally.{tally-as}
+use Rattle.linear_rows.specs.Tallies.{Tallied}
+use Rattle.linear_uses.specs.Uses.{onRow, burnAt, burnedIn, Burning, Unburned}
+use Rattle.linear_uses.proofs.Tally.{tally-as}
 
 -- the numbers that the names inside types are found by
 abbrev pub assets-of : {nodes : List ℕ} {e asset : ℕ} {burned : List Bool} {rows : List ℕ} → Burning nodes e asset burned rows → Assets nodes asset

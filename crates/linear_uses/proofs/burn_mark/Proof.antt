@@ -9,10 +9,10 @@ use Rattle.rules.specs.Linear.{isBurned}
 use Rattle.nodes.specs.Shown.{View, In, Worded, treeOf}
 use Rattle.nodes.proofs.Turns.{named-at}
 use Rattle.linear_parts.proofs.Parts.{param-type}
-use Rattle.linear_rows.specs.Tallies.{Burning, burnedIn}
-use Rattle.linear_rows.proofs.Burns.{assets-of, burned-none, burned-one, burn-other, burn-not, burn-so}
-use Rattle.linear_rows.proofs.burn_mark.Statement.{statement}
-use Rattle.linear_rows.proofs.burn_mark.Tie as tie
+use Rattle.linear_uses.specs.Uses.{Burning, burnedIn}
+use Rattle.linear_uses.proofs.Burns.{assets-of, burned-none, burned-one, burn-other, burn-not, burn-so}
+use Rattle.linear_uses.proofs.burn_mark.Statement.{statement}
+use Rattle.linear_uses.proofs.burn_mark.Tie as tie
 
 is-param : (c : tie.Else1) (W : View (c .before .before .before .args .nodes .now) 0) → treeOf W .kind (c .before .before .before .args .p) ≡ 10
 is-param c W = sym (c .before .kind .ensures W) ∙ c .if1 .left

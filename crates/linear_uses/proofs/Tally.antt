@@ -12,7 +12,8 @@ use lib.Seq.{getD-set-same, getD-set-other}
 use Rattle.image.proofs.Decide.{eq-or-ne}
 use Rattle.rules.specs.Sweep.{keep, run}
 use Rattle.rules.specs.Vocabulary.{alone}
-use Rattle.linear_rows.specs.Tallies.{Tallied, SpareMarks}
+use Rattle.linear_rows.specs.Tallies.{Tallied}
+use Rattle.linear_uses.specs.Uses.{SpareMarks}
 
 -- the same marks, said otherwise
 pub tally-as : {M N U : ℕ → List ℕ} {s : List ℕ} → ((r : ℕ) → M r ≡ N r) → Tallied M U s → Tallied N U s
@@ -49,7 +50,7 @@ module _ {M U : ℕ → List ℕ} {s : List ℕ} (v x : ℕ) (t : Tallied M U s)
     seconds = λ r l. getD-set-other s i (3 * r + 2) _ 0 (λ q. omega arith) ∙ t .seconds r l;
   }
 
--- at most one mark a node leaves room
+-- at most one a node leaves room
 pub keep-few : (b : Bool) (f : ℕ → List ℕ) (i : ℕ) → length (f i) ≤ 1 → length (keep b f i) ≤ 1
 unfolding keep
 keep-few true f i h = h

@@ -15,8 +15,9 @@ use Rattle.records.proofs.Sweep.{run-none, run-on, run-sooner, keep-none}
 use Rattle.nodes.specs.Shown.{treeOf}
 use Rattle.nodes.specs.First.{Until}
 use Rattle.nodes.proofs.Until.{one-end, until-rest}
-use Rattle.linear_rows.specs.Tallies.{Tallied, SpareMarks, burnAt, burnsOn, Burning}
-use Rattle.linear_rows.proofs.Tally.{tally-as, keep-few, run-few, tally-spare}
+use Rattle.linear_rows.specs.Tallies.{Tallied}
+use Rattle.linear_uses.specs.Uses.{SpareMarks, burnAt, burnsOn, Burning}
+use Rattle.linear_uses.proofs.Tally.{tally-as, keep-few, run-few, tally-spare}
 
 -- a node adds one mark at most
 burn-few : (t : Tree) (e : ℕ) (F : List ℕ → ℕ) (r y : ℕ) → length (burnAt t e F r y) ≤ 1

@@ -10,10 +10,11 @@ use Rattle.nodes.specs.Shown.{In, treeOf}
 use Rattle.nodes.proofs.Spans.{Span, span-whole, upto-is}
 use Rattle.linear_occurrences.specs.Counted.{Ahead}
 use Rattle.linear_occurrences.proofs.Ahead.{ahead-starts, ahead-clear}
-use Rattle.linear_rows.specs.Tallies.{Using, Tallied, useAt}
-use Rattle.linear_rows.proofs.Uses.{on-rows, worded, uses-start, uses-on, uses-spare}
-use Rattle.linear_rows.proofs.count_uses.Statement.{statement}
-use Rattle.linear_rows.proofs.count_uses.Tie as tie
+use Rattle.linear_rows.specs.Tallies.{Tallied}
+use Rattle.linear_uses.specs.Uses.{Using, useAt}
+use Rattle.linear_uses.proofs.Uses.{on-rows, worded, uses-start, uses-on, uses-spare}
+use Rattle.linear_uses.proofs.count_uses.Statement.{statement}
+use Rattle.linear_uses.proofs.count_uses.Tie as tie
 
 abbrev Inv-loop : tie.InvT-loop
 Inv-loop nodes base reader flags₀ rows tallies₀ end p₀ flags tallies p =
