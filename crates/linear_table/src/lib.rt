@@ -2,9 +2,9 @@
 use image::Admission;
 use image::Image;
 use linear_occurrences::Flags;
+use linear_parts::Words;
 use linear_rows::Tallies;
 use linear_tracked::Cells;
-use linear_tracked::Words;
 use nodes::Cursor;
 use nodes::ENTRY;
 use nodes::Marks;
@@ -21,7 +21,7 @@ ghost use Rattle.linear_tracked.specs.Rows.{Unrowed, TakesRows, Placed, PlaceOf
 ghost use Rattle.linear_rows.specs.Tallies.{Blanks};
 ghost use Rattle.linear.specs.Seen.{LinearTables};
 ghost use Rattle.linear_table.specs.declared.Row.{Row};
-ghost use Rattle.linear_table.specs.Table.{stored, Holds, rowBy, rowsBy, entry60s, First60, ItemStands, Cut, TableOf};
+ghost use Rattle.linear_table.specs.Table.{stored, Holds, rowBy, rowsBy, entry60s, First60, ItemStands, Cut, refusedTable, TableOf};
 
 // A tracked row: the number of its name, its place, its burn marks and its counted occurrences.
 pub struct Row {
@@ -226,7 +226,7 @@ fn tracked(image: &[u8], head: Image) -> Table
 {
     let nodes = nodes::area(image, head);
     let words = names::find_words(image, head);
-    let asset_words = linear_tracked::asset_words(words);
+    let asset_words = linear_parts::asset_words(words);
     let mut reader = [false; Image::NAMES];
     linear_occurrences::mark_readers(words, &mut reader);
     let mut burned = [false; Image::NAMES];
@@ -253,10 +253,10 @@ fn tracked(image: &[u8], head: Image) -> Table
     table
 }
 
-// The table of an image that is refused by this number: no rows.
+// The table of an image that is refused by this number: no rows, and all other cells 0.
 fn refused(number: usize) -> Table
     requires { ⌜ number < 65536 ⌝ }
-    ensures { λ r. ⌜ (length r ≡ 2046) × (getD r 2045 0 ≡ number) ⌝ }
+    ensures { λ r. ⌜ r ≡ refusedTable number ⌝ }
 {
     let mut table = [0u16; 2046];
     table[REFUSED] = number as u16;

@@ -6,6 +6,8 @@ use crate::tell::Numbers;
 ghost use mathlib.Core.Path.{_≡_};
 ghost use Prim.Native.Nat.{_+_, _*_, _≤_};
 ghost use lib.ListN.{length};
+ghost use Rattle.records.specs.Words.{old};
+ghost use Rattle.recording.specs.Told.{numbers, Within, partsOf, recordAt, recordIn, difference, otherRecords, listDifferences, runBelow};
 
 // Codes below 50 are resolve's, from there to 59 access's, and the rest linear's.
 const ACCESS: usize = 50;
@@ -31,55 +33,70 @@ pub fn part_of(at: usize, count: usize) -> Part
     Part { at, count }
 }
 
-// An answer's refusal and count, with a record beside them.
-fn with_record(answer: Numbers, code: usize, place: usize, related: usize) -> Numbers {
-    Numbers(answer.0, answer.1, code, place, related)
+// A list's refusal and how many records it has, with one of them beside.
+fn with_record(head: Numbers, code: usize, place: usize, related: usize) -> Numbers
+    ensures { λ r. ⌜ r ≡ numbers (head .0) (head .1) code place related ⌝ }
+{
+    Numbers(head.0, head.1, code, place, related)
 }
 
-fn recorded_with(file: &[u8], at: usize, answer: Numbers) -> Numbers
+fn recorded_with(file: &[u8], at: usize, head: Numbers) -> Numbers
     requires { ⌜ at + 6 ≤ length (now file) ⌝ }
+    ensures { λ r. ⌜ r ≡ recordAt (old file) at head ⌝ }
 {
     let code = read::u16_at(file, at);
     let place = read::u16_at(file, at + 2);
     let related = read::u16_at(file, at + 4);
-    with_record(answer, code, place, related)
+    with_record(head, code, place, related)
 }
 
-fn answered_with(words: &[u16], k: usize, answer: Numbers) -> Numbers
+fn answered_with(words: &[u16], k: usize, head: Numbers) -> Numbers
     requires { ⌜ k + 3 ≤ length (now words) ⌝ }
+    ensures { λ r. ⌜ r ≡ recordIn (old words) k head ⌝ }
 {
     let code = read::wide_u16(words[k]);
     let place = read::wide_u16(words[k + 1]);
     let related = read::wide_u16(words[k + 2]);
-    with_record(answer, code, place, related)
+    with_record(head, code, place, related)
 }
 
-fn same_record(file: &[u8], at: usize, words: &[u16], k: usize) -> bool
+// A recorded record against the one of an answer: 1 where they differ, which is told.
+fn record_differs(
+    case: Case,
+    asked: &[u8],
+    file: &[u8],
+    at: usize,
+    words: &[u16],
+    k: usize,
+    head: Numbers,
+) -> usize
     requires { ⌜ (at + 6 ≤ length (now file)) × (k + 3 ≤ length (now words)) ⌝ }
+    ensures { λ r. ⌜ (r ≡ difference (recordAt (old file) at head) (recordIn (old words) k head)) × (r ≤ 1) ⌝ }
 {
-    let none = Numbers(0, 0, 0, 0, 0);
-    tell::same(recorded_with(file, at, none), answered_with(words, k, none))
+    let recorded = recorded_with(file, at, head);
+    let answered = answered_with(words, k, head);
+    tell::differs(case, asked, recorded, answered)
 }
 
-// The first record that is not the recorded one, or `count`.
-fn first_other(file: &[u8], at: usize, words: &[u16], count: usize) -> usize
-    requires { ⌜ (at + 6 * count ≤ length (now file)) × (3 * count ≤ length (now words)) ⌝ }
-    ensures { λ r. ⌜ r ≤ count ⌝ }
+// How many of the recorded records, as many as `head` says, are not the answer's.
+fn others(case: Case, asked: &[u8], file: &[u8], at: usize, words: &[u16], head: Numbers) -> usize
+    requires { ⌜ (at + 6 * head .1 ≤ length (now file)) × (3 * head .1 ≤ length (now words)) ⌝ }
+    ensures { λ r. ⌜ (r ≡ otherRecords (old file) at head (old words) (head .1)) × (r ≤ head .1) ⌝ }
 {
+    let count = head.1;
+    let mut differ = 0;
     let mut i = 0;
     while i < count {
-        if !same_record(file, at + 6 * i, words, 3 * i) {
-            return i;
-        }
+        differ += record_differs(case, asked, file, at + 6 * i, words, 3 * i, head);
         i += 1;
     }
-    i
+    differ
 }
 
 // How many records the list starts with whose codes are below `code`.
 fn run_below(file: &[u8], at: usize, count: usize, code: usize) -> usize
     requires { ⌜ at + 6 * count ≤ length (now file) ⌝ }
-    ensures { λ r. ⌜ r ≤ count ⌝ }
+    ensures { λ r. ⌜ (r ≡ runBelow (old file) at code count) × (r ≤ count) ⌝ }
 {
     let mut i = 0;
     while i < count {
@@ -94,7 +111,8 @@ fn run_below(file: &[u8], at: usize, count: usize, code: usize) -> usize
 // Each pass's part of a list.
 pub fn parts_of(file: &[u8], at: usize, count: usize) -> Parts
     requires { ⌜ at + 6 * count ≤ length (now file) ⌝ }
-    ensures { λ r. ⌜ (r .resolve .at + 6 * r .resolve .count ≤ length (now (file .entry))) × (r .access .at + 6 * r .access .count ≤ length (now (file .entry))) × (r .linear .at + 6 * r .linear .count ≤ length (now (file .entry))) ⌝ }
+    ensures { λ r. ⌜ r ≡ partsOf (old file) at count ⌝ }
+    ensures { λ r. ⌜ Within (old file) (r .resolve) × Within (old file) (r .access) × Within (old file) (r .linear) ⌝ }
 {
     let n = run_below(file, at, count, ACCESS);
     let then = at + 6 * n;
@@ -110,7 +128,7 @@ pub fn parts_of(file: &[u8], at: usize, count: usize) -> Parts
     }
 }
 
-// An answer and its words against a part of the recorded list: 1 where they differ, which is told.
+// An answer and its words against a part of the recorded list: how many differ of its head and its records. Each is told.
 pub fn records_differ(
     case: Case,
     asked: &[u8],
@@ -119,17 +137,10 @@ pub fn records_differ(
     answer: Numbers,
     words: &[u16],
 ) -> usize
-    requires { ⌜ (part .at + 6 * part .count ≤ length (now file)) × (3 * part .count ≤ length (now words)) ⌝ }
-    ensures { λ r. ⌜ r ≤ 1 ⌝ }
+    requires { ⌜ Within (now file) part × (3 * part .count ≤ length (now words)) ⌝ }
+    ensures { λ r. ⌜ (r ≡ listDifferences (case .refusal) (old file) part answer (old words)) × (r ≤ part .count + 1) ⌝ }
 {
-    let at = part.at;
-    let count = part.count;
-    let recorded = Numbers(case.refusal, count, 0, 0, 0);
-    let i = first_other(file, at, words, count);
-    if i < count {
-        let told = recorded_with(file, at + 6 * i, recorded);
-        let found = answered_with(words, 3 * i, answer);
-        return tell::differs(case, asked, told, found);
-    }
-    tell::differs(case, asked, recorded, answer)
+    let head = Numbers(case.refusal, part.count, 0, 0, 0);
+    let first = tell::differs(case, asked, head, answer);
+    first + others(case, asked, file, part.at, words, head)
 }

@@ -5,6 +5,7 @@ ghost use Prim.Native.Nat.{_+_, _<_, _≤_};
 ghost use lib.ListN.{length, getD};
 ghost use Rattle.image.specs.Node.{half, fullWord};
 ghost use Rattle.records.specs.Words.{old};
+ghost use Rattle.recording.specs.Told.{verdictAt};
 
 fn wide(b: u8) -> usize
     ensures { λ r. ⌜ (r ≡ b) × (r < 256) ⌝ }
@@ -48,6 +49,7 @@ pub fn u32_at(s: &[u8], at: usize) -> usize
 // The recorded verdict of a pass.
 pub fn verdict_at(s: &[u8], at: usize, refusal: usize) -> Numbers
     requires { ⌜ at + 12 ≤ length (now s) ⌝ }
+    ensures { λ r. ⌜ r ≡ verdictAt (old s) at refusal ⌝ }
 {
     let code = u16_at(s, at);
     let place = u16_at(s, at + 2);

@@ -3,7 +3,8 @@ use crate::read;
 ghost use mathlib.Core.Path.{_≡_};
 ghost use Prim.Native.Nat.{_+_, _<_, _≤_};
 ghost use lib.ListN.{length};
-ghost use Rattle.recording.specs.Told.{alike, difference};
+ghost use Rattle.records.specs.Words.{old};
+ghost use Rattle.recording.specs.Told.{alike, difference, verdictAt, replyAt};
 
 // An answer as numbers, 0 where it has fewer. Of a pass: refusal, code, place, span words. Of a list: refusal, how many
 // records, and the code, place and related word of the first that differs. Of a question: refusal, and 1 for yes.
@@ -86,7 +87,7 @@ pub fn differs(case: Case, asked: &[u8], recorded: Numbers, answered: Numbers) -
 // A pass's answer against the recorded verdict.
 pub fn verdict_differs(case: Case, asked: &[u8], file: &[u8], at: usize, answer: Numbers) -> usize
     requires { ⌜ at + 12 ≤ length (now file) ⌝ }
-    ensures { λ r. ⌜ r ≤ 1 ⌝ }
+    ensures { λ r. ⌜ (r ≡ difference (verdictAt (old file) at (case .refusal)) answer) × (r ≤ 1) ⌝ }
 {
     differs(
         case,
@@ -99,7 +100,7 @@ pub fn verdict_differs(case: Case, asked: &[u8], file: &[u8], at: usize, answer:
 // The answer to a question against the recorded one.
 pub fn answer_differs(case: Case, asked: &[u8], file: &[u8], at: usize, answer: Numbers) -> usize
     requires { ⌜ at < length (now file) ⌝ }
-    ensures { λ r. ⌜ r ≤ 1 ⌝ }
+    ensures { λ r. ⌜ (r ≡ difference (replyAt (old file) at (case .refusal)) answer) × (r ≤ 1) ⌝ }
 {
     let recorded = Numbers(case.refusal, read::u8_at(file, at), 0, 0, 0);
     differs(case, asked, recorded, answer)

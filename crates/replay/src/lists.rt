@@ -38,7 +38,7 @@ fn list_in(
     words: &mut [u16],
 ) -> usize
     requires { ⌜ (part .at + 6 * part .count ≤ length (now file)) × (3 * part .count ≤ length (now words)) ⌝ }
-    ensures { λ r. ⌜ r ≤ 1 ⌝ }
+    ensures { λ r. ⌜ r ≤ part .count + 1 ⌝ }
 {
     let answer = answer_in(asked, image, words, 3 * part.count);
     recording::records_differ(case, name, file, part, answer, words)
@@ -53,7 +53,7 @@ fn list_differs(
     image: &[u8],
 ) -> usize
     requires { ⌜ (part .at + 6 * part .count ≤ length (now file)) × (length (now file) ≤ 450000) ⌝ }
-    ensures { λ r. ⌜ r ≤ 1 ⌝ }
+    ensures { λ r. ⌜ r ≤ part .count + 1 ⌝ }
 {
     let mut words = blank();
     list_in(case, name, asked, file, part, image, &mut words)
@@ -76,7 +76,7 @@ fn short_differs(case: Case, count: usize, image: &[u8]) -> usize
 // How many of the lists differ from the recorded one.
 pub fn differ(case: Case, file: &[u8], at: usize, count: usize, image: &[u8]) -> usize
     requires { ⌜ (at + 6 * count ≤ length (now file)) × (length (now file) ≤ 450000) ⌝ }
-    ensures { λ r. ⌜ r ≤ 5 ⌝ }
+    ensures { λ r. ⌜ r ≤ 400000 ⌝ }
 {
     let whole = recording::part_of(at, count);
     let parts = recording::parts_of(file, at, count);

@@ -157,7 +157,7 @@ fn names_step(case: Case, file: &[u8], at: usize, count: usize, image: &[u8]) ->
 // The answers on one image, from its refusal on.
 fn answers_step(file: &[u8], at: usize, number: usize, image: &[u8]) -> Step
     requires { ⌜ (at + 41 ≤ length (now file)) × (length (now file) ≤ 450000) ⌝ }
-    ensures { λ r. ⌜ (r .at ≤ length (now (file .entry))) × (r .differ ≤ 1000) ⌝ }
+    ensures { λ r. ⌜ (r .at ≤ length (now (file .entry))) × (r .differ ≤ 500000) ⌝ }
 {
     let refusal = recording::u8_at(file, at);
     let case = Case { number, refusal };
@@ -182,7 +182,7 @@ fn answers_step(file: &[u8], at: usize, number: usize, image: &[u8]) -> Step
 // One image and the answers on it.
 fn image_step(file: &[u8], at: usize, number: usize) -> Step
     requires { ⌜ (at ≤ length (now file)) × (length (now file) ≤ 450000) ⌝ }
-    ensures { λ r. ⌜ (r .at ≤ length (now (file .entry))) × (r .differ ≤ 1000) ⌝ }
+    ensures { λ r. ⌜ (r .at ≤ length (now (file .entry))) × (r .differ ≤ 500000) ⌝ }
 {
     let n = file.len();
     if n - at < 4 {

@@ -13,7 +13,7 @@ tracked-requires : tie.Need-tracked-requires
 tracked-requires c κs = admitted-by _ _ (sym (c .before .before .before .admit .ensures) ∙ c .before .head .given .1)
 
 returns : tie.Need-returns
-returns c = table-refused _ _ (sym (c .before .before .before .before .admit .ensures) ∙ c .before .before .number .given .1) (c .refused .ensures .0) (c .refused .ensures .1)
+returns c = table-refused _ _ (sym (c .before .before .before .before .admit .ensures) ∙ c .before .before .number .given .1) (c .refused .ensures)
 
 pub table-of-spec : {M : Type 1} → statement M
 table-of-spec = tie.close (tie.spec (λ c κs. search needs) (λ c. search needs) refused-requires (λ c. search needs) tracked-requires returns (λ c. search needs))

@@ -1,4 +1,4 @@
--- `images_step` is safe and ends: the position stays in the file, and an image differs 1,000 times at most.
+-- `images_step` is safe and ends: the position stays in the file, and an image differs 500,000 times at most.
 use borrow.Author.Needs.{needs}
 use Prim.Native.Nat.{_*_, _-_, _≤_}
 use lib.ListN.{length}
@@ -6,7 +6,7 @@ use Rattle.replay.proofs.images_step.Statement.{statement}
 use Rattle.replay.proofs.images_step.Tie as tie
 
 abbrev Inv-loop : tie.InvT-loop
-Inv-loop file count next₀ differ₀ i₀ next differ i = (next ≤ length file) × (differ ≤ 1000 * i) × (i ≤ count)
+Inv-loop file count next₀ differ₀ i₀ next differ i = (next ≤ length file) × (differ ≤ 500000 * i) × (i ≤ count)
 
 abbrev μ-loop : tie.MeasureT-loop
 μ-loop file count next₀ differ₀ i₀ next differ i = count - i
