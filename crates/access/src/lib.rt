@@ -196,9 +196,9 @@ fn entry(
     if nodes::kind(nodes, 0, item) != ENTRY {
         return count;
     }
-    let first = nodes::first_statement(nodes, 0, item);
+    let first = items::first_statement(nodes, 0, item);
     declared_writes(nodes, item, first, true, written);
-    let body = nodes::statements(nodes, 0, item, first);
+    let body = items::statements(nodes, 0, item, first);
     let total = statements(body, first, state, writer, written, out, count);
     declared_writes(nodes, item, first, false, written);
     total

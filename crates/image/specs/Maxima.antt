@@ -21,3 +21,7 @@ maxDepth = 64
 -- bytes of an image
 abbrev pub maxLength : ℕ
 maxLength = 51226
+
+-- rows of the table that the linear pass is lent: a row has four nodes at least
+abbrev pub maxRows : ℕ
+maxRows = 511

@@ -11,8 +11,9 @@ use Rattle.rules.specs.Linear.{rule60, linearEntry}
 use Rattle.records.proofs.Sweep.{keep-one, has-one}
 use Rattle.nodes.specs.Shown.{In, treeOf}
 use Rattle.nodes.proofs.Parts.{inside, formed}
-use Rattle.linear_tracked.specs.declared.Words.{Words}
-use Rattle.linear_tracked.specs.Rows.{Rows, Unrowed, Placed, rowsOf}
+use Rattle.linear_parts.specs.declared.Words.{Words}
+use Rattle.linear_parts.specs.Parts.{rowsOf}
+use Rattle.linear_tracked.specs.Rows.{Rows, Unrowed, Placed}
 use Rattle.linear_tracked.proofs.Filled.{rows-start}
 use Rattle.linear_rows.specs.Tallies.{Tallied, judgedAt}
 use Rattle.linear.specs.Seen.{RowsNoted, LinearTables, itemLinear, rowMarks, rowUses}

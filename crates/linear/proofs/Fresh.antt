@@ -14,7 +14,7 @@ use Rattle.names.specs.Found.{Numbered}
 use Rattle.names.specs.Spelled.{WordsOf}
 use Rattle.places.proofs.Noting.{places-none}
 use Rattle.linear_occurrences.specs.Counted.{Clear, isReader}
-use Rattle.linear_tracked.specs.declared.Words.{Words}
+use Rattle.linear_parts.specs.declared.Words.{Words}
 use Rattle.linear_rows.specs.Tallies.{Blank}
 use Rattle.linear.specs.Seen.{LookedWords, LinearTables, Clean}
 

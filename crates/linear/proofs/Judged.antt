@@ -15,7 +15,8 @@ use Rattle.rules.specs.Tree.{Tree, tree, param-let}
 use Rattle.rules.specs.Vocabulary.{alone, below}
 use Rattle.rules.specs.Linear.{isRow, marks, uses, second, judged, rowRule}
 use Rattle.records.proofs.Sweep.{run-next, run-same}
-use Rattle.linear_tracked.specs.Rows.{rowsOf, Rows}
+use Rattle.linear_parts.specs.Parts.{rowsOf}
+use Rattle.linear_tracked.specs.Rows.{Rows}
 use Rattle.linear_rows.specs.Tallies.{Tallied, Blank, marksAt, countAt, secondAt, judgedAt}
 use Rattle.linear.specs.Seen.{rowMarks, rowUses}
 

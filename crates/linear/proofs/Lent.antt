@@ -10,9 +10,10 @@ use Rattle.rules.specs.Linear.{second}
 use Rattle.nodes.specs.Shown.{Shown, treeOf}
 use Rattle.nodes.specs.First.{Starts}
 use Rattle.linear_occurrences.proofs.Entry.{counting-of}
-use Rattle.linear_tracked.specs.declared.Words.{Words}
-use Rattle.linear_tracked.specs.Rows.{rowsOf, firstRow, lastRow}
-use Rattle.linear_rows.specs.Tallies.{Tallied, Unburned, Using, burnsOn, usesOn}
+use Rattle.linear_parts.specs.declared.Words.{Words}
+use Rattle.linear_parts.specs.Parts.{rowsOf, firstRow, lastRow}
+use Rattle.linear_rows.specs.Tallies.{Tallied}
+use Rattle.linear_uses.specs.Uses.{Unburned, Using, burnsOn, usesOn}
 use Rattle.linear.specs.Seen.{RowsNoted, rowMarks, rowUses}
 use Rattle.linear.proofs.Select.{first-few, last-few, marks-on, uses-on}
 

@@ -18,10 +18,10 @@ use Rattle.records.proofs.Sweep.{run-empty, run-same}
 use Rattle.nodes.specs.Shown.{treeOf}
 use Rattle.linear_occurrences.specs.Counted.{Counting}
 use Rattle.linear_occurrences.proofs.Entry.{uses-are}
-use Rattle.linear_tracked.specs.Rows.{rowsOf, firstRow, lastRow}
-use Rattle.linear_tracked.proofs.Noted.{FirstPasses, first-passes, LastPasses, last-passes, Passes}
+use Rattle.linear_parts.specs.Parts.{rowsOf, firstRow, lastRow}
+use Rattle.linear_parts.proofs.Noted.{FirstPasses, first-passes, LastPasses, last-passes, Passes}
 use Rattle.linear_tracked.proofs.Reading.{first-of-name, last-of-name}
-use Rattle.linear_rows.specs.Tallies.{burnsOn, usesOn}
+use Rattle.linear_uses.specs.Uses.{burnsOn, usesOn}
 use Rattle.linear.specs.Seen.{rowMarks, rowUses}
 
 -- three tests, one after another, in either order

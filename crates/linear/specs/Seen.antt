@@ -5,6 +5,7 @@ use mathlib.Core.Bool.{Bool, false}
 use mathlib.Core.List.{List, []}
 use lib.Dec.{ltb}
 use lib.ListN.{length, getD}
+use Rattle.image.specs.Maxima.{maxRows}
 use Rattle.image.specs.Pick.{pick}
 use Rattle.rules.specs.Sweep.{keep, has}
 use Rattle.rules.specs.Tree.{Tree, entry as entries}
@@ -17,8 +18,8 @@ use Rattle.names.specs.declared.Words.{Words as AllWords}
 use Rattle.names.specs.Spelled.{WordsOf}
 use Rattle.places.specs.Places.{Places}
 use Rattle.linear_occurrences.specs.Counted.{isReader, Clear}
-use Rattle.linear_tracked.specs.declared.Words.{Words}
-use Rattle.linear_tracked.specs.Rows.{KnownWords, rowsOf, firstRow, lastRow}
+use Rattle.linear_parts.specs.declared.Words.{Words}
+use Rattle.linear_parts.specs.Parts.{KnownWords, rowsOf, firstRow, lastRow}
 use Rattle.linear_rows.specs.Tallies.{Tallied, Blank}
 
 -- what the pass is lent: the nodes of an admitted image, and the numbers of the words that the rules mention
@@ -36,7 +37,7 @@ rowUses t e r = pick (ltb r (length (rowsOf e t))) (uses t e (getD (rowsOf e t) 
 
 -- the tables of an entry, as they are found and left: no name is burned, none has a row, no row has a mark or a use
 pub record Clean (s : List ℕ) (burned : List Bool) (places first last tallies : List ℕ) : Type 0 where
-  pub size : length places ≡ 511
+  pub size : length places ≡ maxRows
   pub burned-none : Marks s (λ w. false) burned
   pub first-none : Places s (λ w. 0) first
   pub last-none : Places s (λ w. 0) last
@@ -70,7 +71,7 @@ pub record RowsNoted (nodes : List ℕ) (words : Words) (e : ℕ) (reader burned
   pub is-entry : treeOf (known .view) .kind e ≡ 9
   pub reader-marks : Marks (known .view .image) isReader reader
   pub burned-none : Marks (known .view .image) (λ w. false) burned
-  pub few : length (rowsOf e (treeOf (known .view))) ≤ 511
+  pub few : length (rowsOf e (treeOf (known .view))) ≤ maxRows
   pub first-rows : Places (known .view .image) (firstRow (treeOf (known .view)) (rowsOf e (treeOf (known .view)))) first
   pub last-rows : Places (known .view .image) (lastRow (treeOf (known .view)) (rowsOf e (treeOf (known .view)))) last
   pub blank : Blank tallies

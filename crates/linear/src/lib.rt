@@ -1,9 +1,9 @@
 // The linear pass: codes 60, 61 and 62 of document 01, entry by entry, as the pass's part of the list.
 use image::Image;
 use linear_occurrences::Flags;
+use linear_parts::Words;
 use linear_rows::Tallies;
 use linear_tracked::Cells;
-use linear_tracked::Words;
 use nodes::Cursor;
 use nodes::ENTRY;
 use nodes::Marks;
@@ -32,10 +32,10 @@ pub fn tally(
     ensures { λ _. ⌜ ((T : RowsNoted (old nodes) words entry (old reader) (old burned) (old first) (old last) (old tallies)) → Tallies-entry T (new burned) (new flags) (new tallies)) ⌝ }
 {
     let asset = words.asset;
-    let start = nodes::first_statement(nodes, 0, entry);
-    linear_rows::mark_burned(asset, nodes, entry, start, burned, first, tallies);
-    let body = nodes::statements(nodes, 0, entry, start);
-    linear_rows::count_uses(body, start, reader, flags, last, tallies);
+    let start = items::first_statement(nodes, 0, entry);
+    linear_uses::mark_burned(asset, nodes, entry, start, burned, first, tallies);
+    let body = items::statements(nodes, 0, entry, start);
+    linear_uses::count_uses(body, start, reader, flags, last, tallies);
 }
 
 // 60, 61 and 62 in an item, if it is an Entry. The tables are left as they were found.
@@ -128,7 +128,7 @@ pub fn list(nodes: &[u8], words: names::Words, out: &mut [u16]) -> usize
     requires { ⌜ LookedWords (now nodes) words ⌝ }
     ensures { λ r. ⌜ Adds (λ (T : LookedWords (old nodes) words). linear (treeOf (T .view))) (3070 * 2048) out 0 r ⌝ }
 {
-    let asset_words = linear_tracked::asset_words(words);
+    let asset_words = linear_parts::asset_words(words);
     let mut reader = [false; Image::NAMES];
     linear_occurrences::mark_readers(words, &mut reader);
     let mut burned = [false; Image::NAMES];

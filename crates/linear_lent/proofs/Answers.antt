@@ -10,7 +10,7 @@ use Rattle.image.specs.declared.Admission.the-variants as admission
 use Rattle.image.proofs.Verdict.{admitted-is, refused-is, refused-early}
 use Rattle.rules.specs.Answers.{spanFrom, spanTo}
 use Rattle.nodes.specs.Shown.{Admitted}
-use Rattle.typeck.specs.declared.Verdict.the-variants as answer
+use Rattle.passes.specs.declared.Verdict.the-variants as answer
 use Rattle.typeck.specs.Face.{verdictOf}
 use Rattle.linear_lent.specs.declared.Found.{Found}
 use Rattle.linear_lent.specs.Lent.{answered}

@@ -22,16 +22,16 @@ use Rattle.rules.specs.Passes as passes
 use Rattle.rules.proofs.Answers.{refusal-most}
 use Rattle.rules.proofs.Passes.{judges-linear}
 use Rattle.records.proofs.Sweep.{run-parts, run-one, run-below}
-use Rattle.typeck.specs.declared.Verdict.{Verdict}
-use Rattle.typeck.specs.declared.Verdict.the-variants as answer
+use Rattle.passes.specs.declared.Verdict.{Verdict}
+use Rattle.passes.specs.declared.Verdict.the-variants as answer
 use Rattle.typeck.specs.Face.{Judged, verdictOf}
-use Rattle.typeck.proofs.Laws.{judged-refused, judged-numbers}
+use Rattle.passes.proofs.Laws.{judged-refused, judged-numbers}
 use Rattle.linear_table.specs.declared.Row.{Row}
-use Rattle.linear_table.specs.Table.{noRow, rowAt, rowIn, rowOf, oneRow, entryRows, itemRows, entry60s, Cut, TableOf}
+use Rattle.linear_table.specs.Table.{blankRow, nthRow, rowIn, rowFor, oneRow, entryRows, itemRows, entry60s, Cut, TableOf}
 use Rattle.linear_lent.specs.declared.Found.{Found}
 use Rattle.linear_lent.specs.declared.State.{State}
 use Rattle.linear_lent.specs.declared.Turn.{Turn}
-use Rattle.linear_lent.specs.Lent.{JudgedIn, foundAt, judgeRow, rowBefore, stepOf, stateOf, firstFound, startOf, drove, ran, answered}
+use Rattle.linear_lent.specs.Lent.{JudgedIn, foundAt, judgeRow, rowBefore, stepOf, stateWith, firstFound, startOf, drove, ran, answered}
 
 -- The rows, from the last to the first
 
@@ -91,35 +91,35 @@ module _ (cells : List ℕ) where
   unfolding stepOf
   step-stores m f r = let e : 511 + suc m - 1 ≡ 511 + m = omega arith in simp (le-leb 512 (511 + suc m) (omega arith), before-row m, e)
 
-  step-judges : (m : ℕ) (f : Found) (r : Row) → m < 511 → stepOf cells (record { at = m; left = suc m; found = f }) r ≡ record { row = noRow; state = record { at = atRow m; left = m; found = judgeRow r f } }
+  step-judges : (m : ℕ) (f : Found) (r : Row) → m < 511 → stepOf cells (record { at = m; left = suc m; found = f }) r ≡ record { row = blankRow; state = record { at = atRow m; left = m; found = judgeRow r f } }
   unfolding stepOf
   step-judges m f r h = let e : suc m - 1 ≡ m = omega arith in simp (lt-leb 512 (suc m) (omega arith), before-row m, e)
 
   -- the second half: the rows from m on are blank, those before stand
-  judges : (m : ℕ) (f : Found) (zs : List Row) → m ≤ 511 → length zs ≡ 511 → ((i : ℕ) → i < m → rowAt zs i ≡ rowIn cells i) → ((i : ℕ) → m ≤ i → i < 511 → rowAt zs i ≡ noRow)
-      → drove cells m (record { at = atRow m; left = m; found = f }) zs ≡ (record { at = 510; left = 0; found = judgeDown m f }, replicate 511 noRow)
+  judges : (m : ℕ) (f : Found) (zs : List Row) → m ≤ 511 → length zs ≡ 511 → ((i : ℕ) → i < m → nthRow zs i ≡ rowIn cells i) → ((i : ℕ) → m ≤ i → i < 511 → nthRow zs i ≡ blankRow)
+      → drove cells m (record { at = atRow m; left = m; found = f }) zs ≡ (record { at = 510; left = 0; found = judgeDown m f }, replicate 511 blankRow)
   unfolding drove judgeDown
-  judges zero f zs h l a b = ap (λ (r : List Row). (record { at = 510; left = 0; found = f }, r)) (ext-getD noRow zs (replicate 511 noRow) (l ∙ sym (length-replicate {A = Row} 511 noRow)) (λ i k. b i (omega arith) (omega arith) ∙ sym (getD-replicate {A = Row} 511 i noRow noRow (omega arith))))
+  judges zero f zs h l a b = ap (λ (r : List Row). (record { at = 510; left = 0; found = f }, r)) (ext-getD blankRow zs (replicate 511 blankRow) (l ∙ sym (length-replicate {A = Row} 511 blankRow)) (λ i k. b i (omega arith) (omega arith) ∙ sym (getD-replicate {A = Row} 511 i blankRow blankRow (omega arith))))
   judges (suc m) f zs h l a b =
       let e = ap (λ (r : Row). stepOf cells (record { at = m; left = suc m; found = f }) r) (a m (omega arith)) ∙ step-judges m f (rowIn cells m) (omega arith) in
       ap (λ (t : Turn). drove cells m (t .state) (set zs m (t .row))) e
-      ∙ judges m (judgeRow (rowIn cells m) f) (set zs m noRow) (omega arith) (length-set zs m noRow ∙ l) (λ i k. getD-set-other zs m i noRow noRow (λ z. omega arith) ∙ a i (omega arith))
-      (λ i k j. ⊎-elim (λ (d : i ≡ m). ap (rowAt (set zs m noRow)) d ∙ getD-set-same zs m noRow noRow (omega arith)) (λ (n : i ≡ m → ⊥). getD-set-other zs m i noRow noRow n ∙ b i (omega arith) j) (eq-or-ne i m))
+      ∙ judges m (judgeRow (rowIn cells m) f) (set zs m blankRow) (omega arith) (length-set zs m blankRow ∙ l) (λ i k. getD-set-other zs m i blankRow blankRow (λ z. omega arith) ∙ a i (omega arith))
+      (λ i k j. ⊎-elim (λ (d : i ≡ m). ap (nthRow (set zs m blankRow)) d ∙ getD-set-same zs m blankRow blankRow (omega arith)) (λ (n : i ≡ m → ⊥). getD-set-other zs m i blankRow blankRow n ∙ b i (omega arith) j) (eq-or-ne i m))
 
   -- the first half: the rows from m on stand
-  stores : (m : ℕ) (f : Found) (zs : List Row) → m ≤ 511 → length zs ≡ 511 → ((i : ℕ) → m ≤ i → i < 511 → rowAt zs i ≡ rowIn cells i)
-      → drove cells (511 + m) (record { at = atRow m; left = 511 + m; found = f }) zs ≡ (record { at = 510; left = 0; found = judgeDown 511 f }, replicate 511 noRow)
+  stores : (m : ℕ) (f : Found) (zs : List Row) → m ≤ 511 → length zs ≡ 511 → ((i : ℕ) → m ≤ i → i < 511 → nthRow zs i ≡ rowIn cells i)
+      → drove cells (511 + m) (record { at = atRow m; left = 511 + m; found = f }) zs ≡ (record { at = 510; left = 0; found = judgeDown 511 f }, replicate 511 blankRow)
   unfolding drove
   stores zero f zs h l a = judges 511 f zs (omega arith) l (λ i k. a i (omega arith) k) (λ i k j. absurd (omega arith))
   stores (suc m) f zs h l a =
       let n : 511 + suc m ≡ suc (511 + m) = omega arith in
       ap (λ (k : ℕ). drove cells k (record { at = m; left = 511 + suc m; found = f }) zs) n
-      ∙ ap (λ (t : Turn). drove cells (511 + m) (t .state) (set zs m (t .row))) (step-stores m f (rowAt zs m))
+      ∙ ap (λ (t : Turn). drove cells (511 + m) (t .state) (set zs m (t .row))) (step-stores m f (nthRow zs m))
       ∙ stores m f (set zs m (rowIn cells m)) (omega arith) (length-set zs m (rowIn cells m) ∙ l)
-      (λ i k j. ⊎-elim (λ (d : i ≡ m). ap (rowAt (set zs m (rowIn cells m))) d ∙ getD-set-same zs m (rowIn cells m) noRow (omega arith) ∙ ap (rowIn cells) (sym d)) (λ (n : i ≡ m → ⊥). getD-set-other zs m i (rowIn cells m) noRow n ∙ a i (omega arith) j) (eq-or-ne i m))
+      (λ i k j. ⊎-elim (λ (d : i ≡ m). ap (nthRow (set zs m (rowIn cells m))) d ∙ getD-set-same zs m (rowIn cells m) blankRow (omega arith) ∙ ap (rowIn cells) (sym d)) (λ (n : i ≡ m → ⊥). getD-set-other zs m i (rowIn cells m) blankRow n ∙ a i (omega arith) j) (eq-or-ne i m))
 
   -- the cells hold a list of rows: what is found at those is found in the cells
-  down-holds : (m : ℕ) (rows : List Row) (f : Found) → length rows ≤ m → ((i : ℕ) → i < m → rowIn cells i ≡ rowAt rows i) → judgeDown m f ≡ judgeRows rows f
+  down-holds : (m : ℕ) (rows : List Row) (f : Found) → length rows ≤ m → ((i : ℕ) → i < m → rowIn cells i ≡ nthRow rows i) → judgeDown m f ≡ judgeRows rows f
   unfolding judgeDown judgeRows
   down-holds zero [] f l h = refl
   down-holds zero (r ∷ rows) f l h = absurd (omega arith)
@@ -128,11 +128,11 @@ module _ (cells : List ℕ) where
       (λ (k : m < length rows).
       let q = split-last rows m (omega arith) in
       let n = q .3 in
-      let x : rowIn cells m ≡ q .1 = h m (omega arith) ∙ ap (λ (t : List Row). rowAt t m) (q .2) ∙ ap (rowAt (q .0 ++ q .1 ∷ [])) (sym n) ∙ getD-append-seam (q .0) (q .1) [] noRow in
+      let x : rowIn cells m ≡ q .1 = h m (omega arith) ∙ ap (λ (t : List Row). nthRow t m) (q .2) ∙ ap (nthRow (q .0 ++ q .1 ∷ [])) (sym n) ∙ getD-append-seam (q .0) (q .1) [] blankRow in
       ap (λ (r : Row). judgeDown m (judgeRow r f)) x
-      ∙ down-holds m (q .0) (judgeRow (q .1) f) (omega arith) (λ i j. h i (omega arith) ∙ ap (λ (t : List Row). rowAt t i) (q .2) ∙ List·getD-append (q .0) (q .1 ∷ []) noRow i (omega arith))
+      ∙ down-holds m (q .0) (judgeRow (q .1) f) (omega arith) (λ i j. h i (omega arith) ∙ ap (λ (t : List Row). nthRow t i) (q .2) ∙ List·getD-append (q .0) (q .1 ∷ []) blankRow i (omega arith))
       ∙ sym (ap (λ (t : List Row). judgeRows t f) (q .2) ∙ rows-join (q .0) (q .1 ∷ []) f))
-      (λ (k : length rows ≤ m). ap (λ (r : Row). judgeDown m (judgeRow r f)) (h m (omega arith) ∙ List·getD-eq-default rows noRow k) ∙ down-holds m rows f k (λ i j. h i (omega arith)))
+      (λ (k : length rows ≤ m). ap (λ (r : Row). judgeDown m (judgeRow r f)) (h m (omega arith) ∙ List·getD-eq-default rows blankRow k) ∙ down-holds m rows f k (λ i j. h i (omega arith)))
       (lt-or-ge m (length rows))
 
 -- Rows and records
@@ -156,7 +156,7 @@ place-some t x h = go (eqb (t .kind x) 25)
     go false e = omega arith
 
 module _ (s : List ℕ) where
-  row-found : (e x : ℕ) → 0 < x → (f : Found) → judgeRow (rowOf s e x) f ≡ found (rowRule (tree s) e x) f
+  row-found : (e x : ℕ) → 0 < x → (f : Found) → judgeRow (rowFor s e x) f ≡ found (rowRule (tree s) e x) f
   unfolding rowRule judged
   row-found e x h f =
       let n = length (marks (tree s) e x) + length (uses (tree s) e x) in
@@ -222,16 +222,16 @@ module _ (s : List ℕ) where
 -- What the steps give
 
 module _ {s cells : List ℕ} (T : TableOf s cells) (ys : List Row) where
-  ran-refused : (refusal s ≡ 0 → ⊥) → ran cells ys ≡ (stateOf 0 (foundAt (refusal s) 0), ys)
+  ran-refused : (refusal s ≡ 0 → ⊥) → ran cells ys ≡ (stateWith 0 (foundAt (refusal s) 0), ys)
   unfolding startOf drove
   ran-refused n =
-      let e : startOf cells ≡ stateOf 0 (foundAt (refusal s) 0) = ap (λ (b : Bool). pick b (stateOf 1022 (firstFound (getD cells 2044 0))) (stateOf 0 (foundAt (getD cells 2045 0) 0))) (ne-eqb (getD cells 2045 0) 0 (λ z. n (sym (T .refused) ∙ z))) ∙ ap (λ (k : ℕ). stateOf 0 (foundAt k 0)) (T .refused) in
+      let e : startOf cells ≡ stateWith 0 (foundAt (refusal s) 0) = ap (λ (b : Bool). pick b (stateWith 1022 (firstFound (getD cells 2044 0))) (stateWith 0 (foundAt (getD cells 2045 0) 0))) (ne-eqb (getD cells 2045 0) 0 (λ z. n (sym (T .refused) ∙ z))) ∙ ap (λ (k : ℕ). stateWith 0 (foundAt k 0)) (T .refused) in
       ap (λ (c : State). drove cells (c .left) c ys) e
 
-  ran-admitted : refusal s ≡ 0 → length ys ≡ 511 → ran cells ys ≡ (record { at = 510; left = 0; found = judgeDown cells 511 (firstFound (getD cells 2044 0)) }, replicate 511 noRow)
+  ran-admitted : refusal s ≡ 0 → length ys ≡ 511 → ran cells ys ≡ (record { at = 510; left = 0; found = judgeDown cells 511 (firstFound (getD cells 2044 0)) }, replicate 511 blankRow)
   unfolding startOf
   ran-admitted z l =
-      let e : startOf cells ≡ stateOf 1022 (firstFound (getD cells 2044 0)) = ap (λ (b : Bool). pick b (stateOf 1022 (firstFound (getD cells 2044 0))) (stateOf 0 (foundAt (getD cells 2045 0) 0))) (eq-eqb (getD cells 2045 0) 0 (T .refused ∙ z)) in
+      let e : startOf cells ≡ stateWith 1022 (firstFound (getD cells 2044 0)) = ap (λ (b : Bool). pick b (stateWith 1022 (firstFound (getD cells 2044 0))) (stateWith 0 (foundAt (getD cells 2045 0) 0))) (eq-eqb (getD cells 2045 0) 0 (T .refused ∙ z)) in
       ap (λ (c : State). drove cells (c .left) c ys) e ∙ stores cells 511 (firstFound (getD cells 2044 0)) ys (omega arith) l (λ i k j. absurd (omega arith))
 
 -- the numbers of what is found are those of the first record
@@ -260,7 +260,7 @@ judged-in {s} {cells} ys {zs} {c} {v} T l e d f = ⊎-elim admitted refused (eq-
         record {
           verdict = judged-numbers passes.linearity s (omega arith) z (judges-linear s z)
               (f ∙ ap (λ (d : State). verdictOf (answered s (d .found))) (e ∙ ap (λ (p : State × List Row). p .0) a) ∙ ap (λ (g : Found). verdictOf (answered s g)) (linear-found s (T .cut z)) ∙ numbers-of s (linear (tree s)));
-          rows-are = d ∙ ap (λ (p : State × List Row). p .1) a ∙ sym (ap (λ (b : Bool). pick b (replicate 511 noRow) ys) (eq-eqb (refusal s) 0 z));
+          rows-are = d ∙ ap (λ (p : State × List Row). p .1) a ∙ sym (ap (λ (b : Bool). pick b (replicate 511 blankRow) ys) (eq-eqb (refusal s) 0 z));
         }
 
     refused : (refusal s ≡ 0 → ⊥) → JudgedIn s ys v zs
@@ -270,5 +270,5 @@ judged-in {s} {cells} ys {zs} {c} {v} T l e d f = ⊎-elim admitted refused (eq-
         let g : v ≡ answer.Image (refusal s) = f ∙ ap (λ (d : State). verdictOf (answered s (d .found))) (e ∙ ap (λ (p : State × List Row). p .0) a) ∙ simp (ne-eqb (refusal s) 0 n, lt-ltb (refusal s) 9 (omega arith)) in
         record {
           verdict = subst (Judged linear s) (sym g) (judged-refused linear s (refusal s) (sym (admission-no s (refusal s) n)));
-          rows-are = d ∙ ap (λ (p : State × List Row). p .1) a ∙ sym (ap (λ (b : Bool). pick b (replicate 511 noRow) ys) (ne-eqb (refusal s) 0 n));
+          rows-are = d ∙ ap (λ (p : State × List Row). p .1) a ∙ sym (ap (λ (b : Bool). pick b (replicate 511 blankRow) ys) (ne-eqb (refusal s) 0 n));
         }

@@ -13,9 +13,9 @@ ghost use Rattle.image.specs.Admit.{refusal};
 ghost use Rattle.rules.specs.Linear.{linear};
 ghost use Rattle.records.specs.Words.{old, new};
 ghost use Rattle.typeck.specs.Face.{Judged, verdictOf};
-ghost use Rattle.linear_table.specs.Table.{rowIn, noRow};
+ghost use Rattle.linear_table.specs.Table.{rowIn, blankRow};
 ghost use Rattle.linear_lent.specs.declared.Found.{Found};
-ghost use Rattle.linear_lent.specs.Lent.{JudgedIn, foundAt, judgeRow, rowBefore, nextOf, stepOf, stateOf, startOf, ran, answered};
+ghost use Rattle.linear_lent.specs.Lent.{JudgedIn, foundAt, judgeRow, rowBefore, nextOf, stepOf, stateWith, startOf, ran, answered};
 
 // What was found, in document 01's numbers: 0 nothing, 1 to 8 the image's refusal, else a code with its place.
 pub struct Found {
@@ -44,7 +44,7 @@ fn wide(x: u16) -> usize
 
 // The state before the first step.
 fn state_of(left: usize, number: u16, place: u16) -> State
-    ensures { λ r. ⌜ r ≡ stateOf left (foundAt number place) ⌝ }
+    ensures { λ r. ⌜ r ≡ stateWith left (foundAt number place) ⌝ }
 {
     let found = Found { number, place };
     State {
@@ -126,7 +126,7 @@ fn next(c: State, found: Found) -> State
 
 // A row of noughts.
 fn blank_row() -> Row
-    ensures { λ r. ⌜ r ≡ noRow ⌝ }
+    ensures { λ r. ⌜ r ≡ blankRow ⌝ }
 {
     Row {
         name: 0,
@@ -220,7 +220,7 @@ pub fn linear(image: &[u8], rows: &mut [Row]) -> Verdict
 
 // A table of blank rows.
 fn blank() -> [Row; 511]
-    ensures { λ r. ⌜ r ≡ replicate 511 noRow ⌝ }
+    ensures { λ r. ⌜ r ≡ replicate 511 blankRow ⌝ }
 {
     let row = blank_row();
     [row; 511]

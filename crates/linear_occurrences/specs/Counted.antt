@@ -5,6 +5,7 @@ use mathlib.Core.Bool.{Bool, false, not}
 use mathlib.Core.List.{List}
 use lib.Dec.{eqb}
 use lib.ListN.{length, getD}
+use Rattle.image.specs.Maxima.{maxNodes}
 use Rattle.image.specs.Pick.{both}
 use Rattle.rules.specs.Sweep.{either, also, some, has, hasWord}
 use Rattle.rules.specs.Tree.{Tree, assign, call, ident, peels}
@@ -50,8 +51,8 @@ pub record Counting (nodes : List ℕ) (base : ℕ) (reader : List Bool) : Type 
 
 -- the flags say what the test says of each node
 pub record Flagged (P : ℕ → Bool) (r : List Bool) : Type 0 where
-  pub size : length r ≡ 2048
-  pub flag : (i : ℕ) → i < 2048 → getD r i false ≡ P i
+  pub size : length r ≡ maxNodes
+  pub flag : (i : ℕ) → i < maxNodes → getD r i false ≡ P i
 
 -- a function that is lent flags sets those of the nodes that G names, whichever x the nodes are seen by
 abbrev pub Sets : {X : Type 0} → (X → ℕ → Bool) → List Bool → List Bool → Type 0
@@ -62,13 +63,13 @@ Flags G flags = Sets G (old flags) (new flags)
 
 -- a sweep from `base` has come to p: the flags from p on are those of what the nodes before it take
 pub record Ahead (t : Tree) (base p : ℕ) (r : List Bool) : Type 0 where
-  pub size : length r ≡ 2048
-  pub flag : (i : ℕ) → p ≤ i → i < 2048 → getD r i false ≡ some (takesNode t i) base (p - base)
+  pub size : length r ≡ maxNodes
+  pub flag : (i : ℕ) → p ≤ i → i < maxNodes → getD r i false ≡ some (takesNode t i) base (p - base)
 
 -- no flag is set from p on
 pub record Clear (p : ℕ) (r : List Bool) : Type 0 where
-  pub size : length r ≡ 2048
-  pub flag : (i : ℕ) → p ≤ i → i < 2048 → getD r i false ≡ false
+  pub size : length r ≡ maxNodes
+  pub flag : (i : ℕ) → p ≤ i → i < maxNodes → getD r i false ≡ false
 
 -- the answer for node p of the sweep: it is an Ident that is counted; and the sweep has come past it
 abbrev pub Counts : (nodes : Lent (List ℕ)) (base : ℕ) (reader : Lent (List Bool)) (p : ℕ) (flags : Lent (List Bool)) → Bool → Type 0

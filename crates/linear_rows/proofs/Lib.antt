@@ -1,5 +1,1 @@
-pub mod Burns
-pub mod Burnt
 pub mod Judged
-pub mod Tally
-pub mod Uses

@@ -8,7 +8,7 @@ use lib.ListN.{length, getD, set, length-set, length-append, replicate, length-r
 use lib.Seq.{getD-set-same, getD-set-other, getD-append-seam}
 use Rattle.image.proofs.Decide.{eq-or-ne, lt-or-ge}
 use Rattle.linear_table.specs.declared.Row.{Row}
-use Rattle.linear_table.specs.Table.{noRow, rowAt, rowIn, stored, Holds}
+use Rattle.linear_table.specs.Table.{blankRow, nthRow, rowIn, stored, Holds}
 
 row-as : (s s′ : List ℕ) (i j : ℕ) → getD s (4 * i) 0 ≡ getD s′ (4 * j) 0 → getD s (4 * i + 1) 0 ≡ getD s′ (4 * j + 1) 0 → getD s (4 * i + 2) 0 ≡ getD s′ (4 * j + 2) 0 → getD s (4 * i + 3) 0 ≡ getD s′ (4 * j + 3) 0
     → rowIn s i ≡ rowIn s′ j
@@ -50,7 +50,7 @@ module _ (s : List ℕ) (i : ℕ) (r : Row) where
 pub holds-none : Holds [] (replicate 2046 0)
 holds-none = record { size = length-replicate {A = ℕ} 2046 0; row = λ i l. row-blank (replicate 2046 0) i (λ j h. getD-replicate 2046 j 0 0 h) l }
   where
-    row-blank : (s : List ℕ) (i : ℕ) → ((j : ℕ) → j < 2046 → getD s j 0 ≡ 0) → i < 511 → rowIn s i ≡ noRow
+    row-blank : (s : List ℕ) (i : ℕ) → ((j : ℕ) → j < 2046 → getD s j 0 ≡ 0) → i < 511 → rowIn s i ≡ blankRow
     row-blank s i z l = rw (z (4 * i) (omega arith), z (4 * i + 1) (omega arith), z (4 * i + 2) (omega arith), z (4 * i + 3) (omega arith))
 
 pub holds-as : {rows rows′ : List Row} {s : List ℕ} → rows ≡ rows′ → Holds rows s → Holds rows′ s
@@ -62,15 +62,15 @@ holds-push {rows} {s} i r H e h = record {
   row = λ j l. ⊎-elim (λ (d : j ≡ i). here j d) (λ (n : j ≡ i → ⊥). row-other s i r j n ∙ H .row j l ∙ sym (others j n)) (eq-or-ne j i);
 }
   where
-    here : (j : ℕ) → j ≡ i → rowIn (stored s i r) j ≡ rowAt (rows ++ r ∷ []) j
+    here : (j : ℕ) → j ≡ i → rowIn (stored s i r) j ≡ nthRow (rows ++ r ∷ []) j
     here j d =
         let z = H .size in
-        ap (rowIn (stored s i r)) d ∙ row-same s i r (omega arith) ∙ sym (getD-append-seam rows r [] noRow) ∙ ap (rowAt (rows ++ r ∷ [])) (e ∙ sym d)
+        ap (rowIn (stored s i r)) d ∙ row-same s i r (omega arith) ∙ sym (getD-append-seam rows r [] blankRow) ∙ ap (nthRow (rows ++ r ∷ [])) (e ∙ sym d)
 
-    others : (j : ℕ) → (j ≡ i → ⊥) → rowAt (rows ++ r ∷ []) j ≡ rowAt rows j
+    others : (j : ℕ) → (j ≡ i → ⊥) → nthRow (rows ++ r ∷ []) j ≡ nthRow rows j
     others j n =
-        ⊎-elim (λ (l : j < i). List·getD-append rows (r ∷ []) noRow j (omega arith))
-        (λ (g : i ≤ j). let z = length-append rows (r ∷ []) in let k : length (rows ++ r ∷ []) ≤ j = omega arith in List·getD-eq-default (rows ++ r ∷ []) noRow k ∙ sym (List·getD-eq-default rows noRow (omega arith))) (lt-or-ge j i)
+        ⊎-elim (λ (l : j < i). List·getD-append rows (r ∷ []) blankRow j (omega arith))
+        (λ (g : i ≤ j). let z = length-append rows (r ∷ []) in let k : length (rows ++ r ∷ []) ≤ j = omega arith in List·getD-eq-default (rows ++ r ∷ []) blankRow k ∙ sym (List·getD-eq-default rows blankRow (omega arith))) (lt-or-ge j i)
 
 -- a cell past the rows can be set
 pub holds-past : {rows : List Row} {s : List ℕ} (j v : ℕ) → 2044 ≤ j → Holds rows s → Holds rows (set s j v)

@@ -7,7 +7,8 @@ use lib.ListN.{length, getD, length-append}
 use Rattle.rules.specs.Sweep.{run}
 use Rattle.nodes.specs.Shown.{treeOf}
 use Rattle.records.proofs.Sweep.{run-same}
-use Rattle.linear_tracked.specs.Rows.{rowsOf, Placed}
+use Rattle.linear_parts.specs.Parts.{rowsOf}
+use Rattle.linear_tracked.specs.Rows.{Placed}
 use Rattle.linear_rows.specs.Tallies.{Tallied, marksAt, countAt}
 use Rattle.linear.specs.Seen.{rowMarks, rowUses}
 use Rattle.linear.proofs.Judged.{rows-run, row-marks, row-count}

@@ -7,7 +7,8 @@ use lib.ListN.{length, length-append, getD}
 use Rattle.rules.specs.Sweep.{run}
 use Rattle.records.proofs.Sweep.{run-none, run-next}
 use Rattle.nodes.specs.Shown.{treeOf}
-use Rattle.linear_tracked.specs.Rows.{Placed, rowsOf}
+use Rattle.linear_parts.specs.Parts.{rowsOf}
+use Rattle.linear_tracked.specs.Rows.{Placed}
 use Rattle.linear_rows.specs.Tallies.{marksAt, countAt}
 use Rattle.linear_rows.proofs.Judged.{Blanked, cell-ahead}
 use Rattle.linear_table.specs.declared.Row.{Row}

@@ -4,6 +4,7 @@ use mathlib.Core.Path.{_≡_}
 use mathlib.Core.Bool.{Bool}
 use mathlib.Core.List.{List, [], _∷_, _++_}
 use lib.ListN.{length, getD, set, replicate}
+use Rattle.image.specs.Maxima.{maxRows}
 use Rattle.image.specs.Admit.{refusal}
 use Rattle.rules.specs.Sweep.{run, keep, has}
 use Rattle.rules.specs.Tree.{Tree, tree, entry as entries, «let», param-let}
@@ -11,18 +12,26 @@ use Rattle.rules.specs.Vocabulary.{Rec, rec, below}
 use Rattle.rules.specs.Linear.{isRow, placeOf, marks, uses, rule60}
 use Rattle.nodes.specs.Shown.{number, treeOf}
 use Rattle.linear_occurrences.specs.Counted.{Clear}
-use Rattle.linear_tracked.specs.Rows.{rowsOf, Placed}
+use Rattle.linear_parts.specs.Parts.{rowsOf}
+use Rattle.linear_tracked.specs.Rows.{Placed}
 use Rattle.linear_rows.specs.Tallies.{marksAt, countAt}
 use Rattle.linear.specs.Seen.{Clean}
 use Rattle.linear_table.specs.declared.Row.{Row}
+pub use Rattle.linear_table.specs.Blank.{blankRow}
 use Rattle.linear_table.specs.declared.Stood.{Stood}
 
--- a blank row, which also stands past the end. Node 0 is the contract, so no row has place 0.
-abbrev pub noRow : Row
-noRow = record { name = 0; place = 0; marks = 0; count = 0 }
+abbrev pub nthRow : List Row → ℕ → Row
+nthRow rows i = getD rows i blankRow
 
-abbrev pub rowAt : List Row → ℕ → Row
-rowAt rows i = getD rows i noRow
+-- a table in plain cells: four for each row, then the place of the first 60, then the number of the refusal
+abbrev pub tableSize : ℕ
+tableSize = 2046
+
+abbrev pub aliasCell : ℕ
+aliasCell = 2044
+
+abbrev pub refusedCell : ℕ
+refusedCell = 2045
 
 -- row i of a table in plain cells, four each; the cells with a row stored
 abbrev pub rowIn : List ℕ → ℕ → Row
@@ -33,15 +42,15 @@ stored s i r = set (set (set (set s (4 * i) (r .name)) (4 * i + 1) (r .place)) (
 
 -- the cells hold these rows, and blank ones after them
 pub record Holds (rows : List Row) (s : List ℕ) : Type 0 where
-  pub size : length s ≡ 2046
-  pub row : (i : ℕ) → i < 511 → rowIn s i ≡ rowAt rows i
+  pub size : length s ≡ tableSize
+  pub row : (i : ℕ) → i < maxRows → rowIn s i ≡ nthRow rows i
 
 -- what the row x of the entry e says: the number of its name, its place, how many marks and how many counted occurrences it has
-abbrev pub rowOf : List ℕ → ℕ → ℕ → Row
-rowOf s e x = record { name = number s (x + 1); place = placeOf (tree s) x; marks = length (marks (tree s) e x); count = length (uses (tree s) e x) }
+abbrev pub rowFor : List ℕ → ℕ → ℕ → Row
+rowFor s e x = record { name = number s (x + 1); place = placeOf (tree s) x; marks = length (marks (tree s) e x); count = length (uses (tree s) e x) }
 
 abbrev pub oneRow : List ℕ → ℕ → ℕ → List Row
-oneRow s e x = rowOf s e x ∷ []
+oneRow s e x = rowFor s e x ∷ []
 
 -- the rows of an entry in order; of an item, if it is an Entry; its 60s
 unfoldable pub entryRows : List ℕ → ℕ → List Row
@@ -68,19 +77,19 @@ pub record Cut (s cells : List ℕ) (r : ℕ) : Type 0 where
   pub high : upto ≤ tree s .end 0
   pub none : (i : ℕ) → 1 ≤ i → i < upto → item60s (tree s) i ≡ []
   pub rows : Holds (run (itemRows s) 1 (upto - 1)) cells
-  pub few : length (run (itemRows s) 1 (upto - 1)) ≤ 511
+  pub few : length (run (itemRows s) 1 (upto - 1)) ≤ maxRows
   pub whole : r ≡ 0 → upto ≡ tree s .end 0
   pub some : 0 < r → (upto < tree s .end 0) × ((m : List Rec) × (item60s (tree s) upto ≡ rec 60 r 0 ∷ m))
 
 -- the table of an image that is refused by number n: the last cell has it, and all others are 0
 unfoldable pub refusedTable : ℕ → List ℕ
-refusedTable n = set (replicate 2046 0) 2045 n
+refusedTable n = set (replicate tableSize 0) refusedCell n
 
 -- the table of an image: two more cells have the place of the first 60, and the number of the refusal
 pub record TableOf (s cells : List ℕ) : Type 0 where
-  pub size : length cells ≡ 2046
-  pub refused : getD cells 2045 0 ≡ refusal s
-  pub cut : refusal s ≡ 0 → Cut s cells (getD cells 2044 0)
+  pub size : length cells ≡ tableSize
+  pub refused : getD cells refusedCell 0 ≡ refusal s
+  pub cut : refusal s ≡ 0 → Cut s cells (getD cells aliasCell 0)
   pub no-rows : 0 < refusal s → cells ≡ refusedTable (refusal s)
 
 -- Within the crate: a row from what its entry's tables have of it, and an entry's rows so

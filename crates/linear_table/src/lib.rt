@@ -2,9 +2,9 @@
 use image::Admission;
 use image::Image;
 use linear_occurrences::Flags;
+use linear_parts::Words;
 use linear_rows::Tallies;
 use linear_tracked::Cells;
-use linear_tracked::Words;
 use nodes::Cursor;
 use nodes::ENTRY;
 use nodes::Marks;
@@ -226,7 +226,7 @@ fn tracked(image: &[u8], head: Image) -> Table
 {
     let nodes = nodes::area(image, head);
     let words = names::find_words(image, head);
-    let asset_words = linear_tracked::asset_words(words);
+    let asset_words = linear_parts::asset_words(words);
     let mut reader = [false; Image::NAMES];
     linear_occurrences::mark_readers(words, &mut reader);
     let mut burned = [false; Image::NAMES];

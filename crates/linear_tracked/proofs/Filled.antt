@@ -19,9 +19,10 @@ use Rattle.nodes.proofs.Turns.{carries-in}
 use Rattle.places.specs.declared.Note.{Note}
 use Rattle.places.specs.declared.Note.the-variants.{First, Last}
 use Rattle.places.specs.Places.{Places, taken, noting}
-use Rattle.linear_tracked.specs.Rows.{rowAt, noted, firstRow, lastRow, Rows}
-use Rattle.linear_tracked.proofs.Noted.{noted-none, noted-append}
-use Rattle.linear_tracked.proofs.Row.{row-kind}
+use Rattle.linear_parts.specs.Parts.{rowAt, noted, firstRow, lastRow}
+use Rattle.linear_tracked.specs.Rows.{Rows}
+use Rattle.linear_parts.proofs.Noted.{noted-none, noted-append}
+use Rattle.linear_parts.proofs.Row.{row-kind}
 
 -- a number is noted for the word of a node
 pub note-word : {nodes : List ℕ} {p : ℕ} (W : View nodes 0) (D : Worded nodes 0 p) (note : Note) (row : ℕ) {F : List ℕ → ℕ} {r : List ℕ} → Places (W .image) F r → {x v : ℕ} → x ≡ number (W .image) p → v ≡ taken note (getD r (x - 1) 0) row

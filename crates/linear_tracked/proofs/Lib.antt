@@ -1,11 +1,5 @@
-pub mod Parts
-pub mod Questions
-pub mod Lists
-pub mod Noted
 pub mod Off
-pub mod Row
 pub mod Place
 pub mod Filled
 pub mod Walk
-pub mod Alias
 pub mod Reading

@@ -12,8 +12,8 @@ use Rattle.nodes.specs.Table.{folded}
 use Rattle.places.specs.declared.Note.{Note}
 use Rattle.places.specs.declared.Note.the-variants.{Off}
 use Rattle.places.specs.Places.{noting}
-use Rattle.linear_tracked.specs.Rows.{noted}
-use Rattle.linear_tracked.proofs.Noted.{Passes, noted-or}
+use Rattle.linear_parts.specs.Parts.{noted}
+use Rattle.linear_parts.proofs.Noted.{Passes, noted-or}
 
 still : (b : Bool) → _≡_ {A = ℕ} (pick b 0 0) 0
 still true = refl

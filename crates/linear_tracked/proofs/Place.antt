@@ -10,10 +10,11 @@ use Rattle.rules.specs.Tree.{Tree}
 use Rattle.nodes.specs.Shown.{In, Worded, treeOf}
 use Rattle.nodes.proofs.Shapes.{within}
 use Rattle.nodes.proofs.Turns.{carries-in}
-use Rattle.linear_tracked.specs.Rows.{rowsOf, Placed, PlaceOf}
-use Rattle.linear_tracked.proofs.Questions.{place-let, place-param}
-use Rattle.linear_tracked.proofs.Lists.{row-at}
-use Rattle.linear_tracked.proofs.Row.{row-named}
+use Rattle.linear_parts.specs.Parts.{rowsOf}
+use Rattle.linear_tracked.specs.Rows.{Placed, PlaceOf}
+use Rattle.linear_parts.proofs.Questions.{place-let, place-param}
+use Rattle.linear_parts.proofs.Lists.{row-at}
+use Rattle.linear_parts.proofs.Row.{row-named}
 
 module _ {nodes : List ℕ} {place : ℕ} (T : PlaceOf nodes place) where
   abbrev t : Tree

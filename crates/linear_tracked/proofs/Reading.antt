@@ -13,9 +13,9 @@ use Rattle.rules.specs.Tree.{Tree, param-let}
 use Rattle.rules.specs.Vocabulary.{named}
 use Rattle.rules.specs.Linear.{isRow, isEarlier, isLater}
 use Rattle.rules.proofs.Reflect.{one-fact, Tells, tells-as, tells-both, tells-ltb, tells-someBelow, tells-named}
-use Rattle.linear_tracked.specs.Rows.{rowsOf, firstRow, lastRow}
-use Rattle.linear_tracked.proofs.Lists.{tells-self, row-at, at-row, rows-rise}
-use Rattle.linear_tracked.proofs.Noted.{FirstPasses, first-passes, LastPasses, last-passes}
+use Rattle.linear_parts.specs.Parts.{rowsOf, firstRow, lastRow}
+use Rattle.linear_parts.proofs.Lists.{tells-self, row-at, at-row, rows-rise}
+use Rattle.linear_parts.proofs.Noted.{FirstPasses, first-passes, LastPasses, last-passes}
 
 side : (x y : ℕ) → (x < y) ⊎ ((x ≡ y) ⊎ (y < x))
 side x y = go (ltb x y) refl (eq-or-ne x y)

@@ -11,10 +11,10 @@ use Rattle.rules.specs.Tree.{Tree, tree, «let», param-let, peels}
 use Rattle.rules.specs.Vocabulary.{below, rec, only, atBottom}
 use Rattle.rules.specs.Linear.{isAlias, rule60}
 use Rattle.records.proofs.Sweep.{run-none, run-on, keep-none}
-use Rattle.nodes.specs.Shown.{In, treeOf}
-use Rattle.nodes.proofs.Shapes.{within}
-use Rattle.linear_tracked.specs.declared.Words.{Words}
-use Rattle.linear_tracked.specs.Rows.{rowAt, rowsOf, rowsBefore, is60, at60, Rows, Unrowed, PartAt}
+use Rattle.nodes.specs.Shown.{treeOf}
+use Rattle.linear_parts.specs.declared.Words.{Words}
+use Rattle.linear_parts.specs.Parts.{rowAt, rowsOf, rowsBefore, is60, PartAt}
+use Rattle.linear_tracked.specs.Rows.{at60, Rows, Unrowed}
 use Rattle.linear_tracked.proofs.Filled.{rows-as}
 
 module _ (s : List ℕ) (e : ℕ) {n : ℕ} {places first last : List ℕ} where
@@ -40,9 +40,6 @@ part-at {e = e} T a b R = record {
   inside = b;
   first-rows = R .first-rows;
 }
-
-pub part-in : {nodes : List ℕ} {words : Words} {p : ℕ} {first : List ℕ} → PartAt nodes words p first → In nodes 0 p
-part-in T = within (T .known .view) (T .here) (T .after) (T .inside)
 
 -- 60 at a part, from the test
 module _ (t : Tree) (e p : ℕ) where

@@ -1,128 +1,31 @@
-// The tracked rows of an entry ("Linear" of document 01): which of its parts declare one, which Lets are another name of one (60), and the one walk that collects both.
-use nodes::CALL;
+// The tracked rows of an entry ("Linear" of document 01) and its 60s, collected in one walk over its parts; and taken off again.
+use linear_parts::Part;
+use linear_parts::Words;
 use nodes::Cursor;
-use nodes::FIELD;
-use nodes::IDENT;
 use nodes::LET;
-use nodes::PARAM;
-use nodes::Past;
 use places::Note;
 use places::Places;
 ghost use mathlib.Core.Path.{_≡_};
-ghost use mathlib.Core.List.{List};
-ghost use Prim.Native.Nat.{ℕ, _+_, _*_, _<_, _≤_, _^_};
+ghost use Prim.Native.Nat.{_+_, _*_, _<_, _≤_, _^_};
 ghost use Rattle.rules.specs.Sweep.{same};
 ghost use Rattle.rules.specs.Tree.{«let»};
-ghost use Rattle.rules.specs.Words.{Q-Asset, split, mint};
 ghost use Rattle.rules.specs.Vocabulary.{below, named};
-ghost use Rattle.rules.specs.Linear.{placeOf, rule60};
+ghost use Rattle.rules.specs.Linear.{rule60};
 ghost use Rattle.records.specs.Words.{old, new};
 ghost use Rattle.records.specs.Records.{Adds};
-ghost use Rattle.nodes.specs.Shown.{View, In, Worded, treeOf};
-ghost use Rattle.names.specs.Found.{Numbered};
-ghost use Rattle.names.specs.Spelled.{WordsOf};
+ghost use Rattle.nodes.specs.Shown.{View, Worded, treeOf};
 ghost use Rattle.places.specs.declared.Note.the-variants.{Off};
 ghost use Rattle.places.specs.Places.{Noted, Notes, noting};
-ghost use Rattle.linear_tracked.specs.Rows.{SaysOf, isMaker, at60, Unrowed, PartAt, SaysPart, IsLet, TakesRow, TakesRows, Placed, Clears, PlaceOf};
+ghost use Rattle.linear_parts.specs.Parts.{PartAt};
+ghost use Rattle.linear_tracked.specs.Rows.{at60, Unrowed, TakesRow, TakesRows, Placed, Clears, PlaceOf};
 
 // One cell for each of the at most 511 rows of an entry.
 pub type Cells = [u16; 511];
-
-// The numbers of `Q_Asset`, `split` and `mint`; 0 where the image has no such name.
-pub struct Words {
-    pub asset: usize,
-    pub split: usize,
-    pub mint: usize,
-}
 
 fn wide(x: u16) -> usize
     ensures { λ r. ⌜ (r ≡ x) × (r < 65536) ⌝ }
 {
     x as usize
-}
-
-// These three of all the words.
-pub fn asset_words(words: names::Words) -> Words
-    ensures { λ r. ⌜ ((s : List ℕ) → WordsOf s words → Numbered s Q-Asset (r .asset) × Numbered s split (r .split) × Numbered s mint (r .mint)) ⌝ }
-{
-    Words {
-        asset: words.asset,
-        split: words.methods.split,
-        mint: words.builtins.mint,
-    }
-}
-
-// Whether the callee x is Field `split` or Ident `mint`.
-fn is_maker(words: Words, nodes: &[u8], x: usize) -> bool
-    requires { ⌜ View (now nodes) 0 × In (now nodes) 0 x ⌝ }
-    ensures { λ r. ⌜ SaysOf (isMaker x) nodes words r ⌝ }
-{
-    match nodes::kind(nodes, 0, x) {
-        FIELD => names::is_word(words.split, nodes, 0, nodes::end(nodes, 0, x + 1)),
-        IDENT => names::is_word(words.mint, nodes, 0, x),
-        _ => false,
-    }
-}
-
-// What a part of an entry is: the Param or the Let of an asset, which declares a row; a Let that is another name of an earlier row, a 60; or neither.
-pub enum Part {
-    Row,
-    Alias,
-    Other,
-}
-
-// What a Let is, by its peeled value: a Call that makes an asset, or an Ident whose name has a row. The rows noted so far are the earlier ones.
-fn let_part(words: Words, nodes: &[u8], p: usize, first: &Places) -> Part
-    requires { ⌜ PartAt (now nodes) words p (now first) × IsLet (now nodes) p ⌝ }
-    ensures { λ r. ⌜ SaysPart nodes words p first r ⌝ }
-{
-    let value = nodes::down(Past::Peels, nodes, 0, p + 2);
-    if nodes::end(nodes, 0, p + 2) <= value {
-        return Part::Other;
-    }
-    match nodes::kind(nodes, 0, value) {
-        CALL => {
-            if is_maker(words, nodes, value + 1) {
-                return Part::Row;
-            }
-            Part::Other
-        }
-        IDENT => {
-            if places::at(first, nodes, 0, value) == 0 {
-                return Part::Other;
-            }
-            Part::Alias
-        }
-        _ => Part::Other,
-    }
-}
-
-// What part p of an entry is.
-fn part_of(words: Words, nodes: &[u8], p: usize, first: &Places) -> Part
-    requires { ⌜ PartAt (now nodes) words p (now first) ⌝ }
-    ensures { λ r. ⌜ SaysPart nodes words p first r ⌝ }
-{
-    match nodes::kind(nodes, 0, p) {
-        PARAM => {
-            if names::is_word(words.asset, nodes, 0, p + 3) {
-                return Part::Row;
-            }
-            Part::Other
-        }
-        LET => let_part(words, nodes, p, first),
-        _ => Part::Other,
-    }
-}
-
-// The place of the row that p declares: the Let, or the Name of the Param.
-fn place_of(nodes: &[u8], p: usize) -> usize
-    requires { ⌜ View (now nodes) 0 × In (now nodes) 0 p ⌝ }
-    ensures { λ r. ⌜ ((W : View (old nodes) 0) → r ≡ placeOf (treeOf W) p) × (r ≤ 2048) ⌝ }
-{
-    if nodes::kind(nodes, 0, p) == LET {
-        return p;
-    }
-    p + 1
 }
 
 // A row's number, from 1 on, is noted for the word of node p.
@@ -156,9 +59,9 @@ fn take_part(
     ensures { λ r. ⌜ TakesRow nodes words p n places first last (r .rows) ⌝ }
     ensures { λ r. ⌜ Adds (λ (T : PartAt (old nodes) words p (old first)). at60 p (treeOf (T .known .view)) (T .entry)) 1 out count (r .count) ⌝ }
 {
-    match part_of(words, nodes, p, first) {
+    match linear_parts::part_of(words, nodes, p, first) {
         Part::Row => {
-            places[n] = place_of(nodes, p) as u16;
+            places[n] = linear_parts::place_of(nodes, p) as u16;
             note_row(Note::First, n + 1, nodes, p + 1, first);
             note_row(Note::Last, n + 1, nodes, p + 1, last);
             Tracked { rows: n + 1, count }

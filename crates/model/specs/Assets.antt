@@ -3,6 +3,7 @@ use Prim.Native.Nat.{ℕ, _-_, _<_, _≤_}
 use mathlib.Core.Path.{_≡_}
 use mathlib.Core.Bool.{Bool, true, false}
 use mathlib.Core.List.{List}
+use Rattle.image.specs.Maxima.{maxNodes}
 use Rattle.rules.specs.Sweep.{also, some, has, same}
 use Rattle.rules.specs.Tree.{type, type-holders}
 use Rattle.rules.specs.Vocabulary.{someBelow}
@@ -37,7 +38,7 @@ insideAt y A w = also (has (treeOf (A .view) .kind y) type) (inner (treeOf (A .v
 
 -- the Name r is the one inside node y; r is 0 where no name is
 pub record Inside {nodes : List ℕ} {asset : ℕ} (A : Assets nodes asset) (y r : ℕ) : Type 0 where
-  pub under : r < 2048
+  pub under : r < maxNodes
   pub none : r ≡ 0 → (w : List ℕ) → insideAt y A w ≡ false
   pub here : 0 < r → In nodes 0 r
   pub name : 0 < r → treeOf (A .view) .kind r ≡ 23

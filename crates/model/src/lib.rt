@@ -93,7 +93,7 @@ fn types_end(nodes: &[u8], item: usize) -> usize
     ensures { λ r. ⌜ ((W : View (old nodes) 0) → TypesEnd W item r) ⌝ }
 {
     if nodes::kind(nodes, 0, item) == ENTRY {
-        return nodes::first_statement(nodes, 0, item);
+        return items::first_statement(nodes, 0, item);
     }
     nodes::end(nodes, 0, item)
 }

@@ -19,4 +19,3 @@ pub mod Until
 pub mod Head
 pub mod Admission
 pub mod Cursors
-pub mod Glance

@@ -3,11 +3,12 @@ use Prim.Native.Nat.{ℕ, zero, suc, _+_, _-_, _≤_}
 use mathlib.Core.Path.{_≡_}
 use mathlib.Core.List.{List}
 use lib.ListN.{length, getD}
+use Rattle.image.specs.Maxima.{maxNames}
 use Rattle.image.specs.Admit.{nameCount}
 use Rattle.nodes.specs.Shown.{word}
 
 pub record Table {A : Type 0} (d : A) (s : List ℕ) (F : List ℕ → A) (r : List A) : Type 0 where
-  pub size : length r ≡ 1024
+  pub size : length r ≡ maxNames
   pub mark : (x : ℕ) → 1 ≤ x → x ≤ nameCount s → getD r (x - 1) d ≡ F (word s x)
 
 -- a function that is lent a table changes what it says of w from v to G x w v, whichever x the nodes are seen by

@@ -3,20 +3,18 @@ use image::Image;
 ghost use mathlib.Core.Path.{_≡_};
 ghost use mathlib.Core.Bool.{Bool};
 ghost use mathlib.Core.List.{List, [], _∷_};
-ghost use Prim.Native.Nat.{ℕ, _+_, _-_, _<_, _≤_};
+ghost use Prim.Native.Nat.{ℕ, _≤_};
 ghost use Rattle.image.specs.Admit.{nodeCount};
-ghost use lib.Dec.{eqb};
-ghost use Rattle.rules.specs.Sweep.{also, either, has, same, hasWord};
-ghost use Rattle.rules.specs.Tree.{peels, state, type-holders, bodied, statement};
+ghost use Rattle.rules.specs.Sweep.{also, has, same, hasWord};
+ghost use Rattle.rules.specs.Tree.{peels, state, type-holders};
 ghost use Rattle.rules.specs.Vocabulary.{someBelow, named, down, isIdent, isField};
-ghost use Rattle.records.specs.Words.{old, new};
+ghost use Rattle.records.specs.Words.{old};
 ghost use Rattle.nodes.specs.Shown.{View, In, Shown, Worded, Admitted, treeOf, number};
 ghost use Rattle.nodes.specs.Marks.{Marks, Turns};
 ghost use Rattle.nodes.specs.Past.{takenOff};
-ghost use Rattle.nodes.specs.First.{NameFirst, HeadPart, Starts, Body, Head};
+ghost use Rattle.nodes.specs.First.{NameFirst, HeadPart, Head};
 ghost use Rattle.nodes.specs.Walk.{onward};
 ghost use Rattle.nodes.specs.Cursors.{Stepped};
-ghost use Rattle.nodes.specs.Items.{ItemsOf};
 
 // One mark for each of 1,024 names, by name number less one.
 pub type Marks = [bool; Image::NAMES];
@@ -259,101 +257,6 @@ pub fn next_type(nodes: &[u8], base: usize, p: usize) -> usize
         return p + 1;
     }
     end(nodes, base, p)
-}
-
-// Which items a contract has: an Event, a Genesis. Where it has none, what is asked of them is not asked.
-pub struct Items {
-    pub event: bool,
-    pub genesis: bool,
-}
-
-// Whether one of two holds.
-fn either(a: bool, b: bool) -> bool
-    ensures { λ r. ⌜ r ≡ either a b ⌝ }
-{
-    if a { true } else { b }
-}
-
-// With one more item, of kind k.
-fn with_item(items: Items, k: usize) -> Items
-    ensures { λ r. ⌜ (r .event ≡ either (eqb k 5) (items .event)) × (r .genesis ≡ either (eqb k 7) (items .genesis)) ⌝ }
-{
-    let event = either(k == EVENT, items.event);
-    let genesis = either(k == GENESIS, items.genesis);
-    Items { event, genesis }
-}
-
-// The items of a contract at a glance.
-pub fn find_items(nodes: &[u8]) -> Items
-    requires { ⌜ View (now nodes) 0 × In (now nodes) 0 0 ⌝ }
-    ensures { λ r. ⌜ ItemsOf (old nodes) r ⌝ }
-{
-    let to = end(nodes, 0, 0);
-    let mut items = Items {
-        event: false,
-        genesis: false,
-    };
-    let mut children = Cursor {
-        base: 0,
-        at: 1,
-        end: to,
-    };
-    while children.at < children.end {
-        items = with_item(items, kind(nodes, 0, children.at));
-        children = children.step(nodes).rest;
-    }
-    items
-}
-
-// Genesis and Entry, the items that hold statements.
-pub fn is_bodied(k: usize) -> bool
-    ensures { λ r. ⌜ r ≡ has k bodied ⌝ }
-{
-    match k {
-        GENESIS => true,
-        ENTRY => true,
-        _ => false,
-    }
-}
-
-pub fn is_statement(k: usize) -> bool
-    ensures { λ r. ⌜ r ≡ has k statement ⌝ }
-{
-    match k {
-        24..=28 => true,
-        _ => false,
-    }
-}
-
-// The first statement of an entry, found child by child; the entry's end if it has none.
-pub fn first_statement(nodes: &[u8], base: usize, entry: usize) -> usize
-    requires { ⌜ View (now nodes) base × In (now nodes) base entry × (0 < entry) ⌝ }
-    ensures { λ r. ⌜ ((W : View (old nodes) base) → Starts W entry r) ⌝ }
-{
-    let to = end(nodes, base, entry);
-    let mut children = Cursor {
-        base,
-        at: entry + 1,
-        end: to,
-    };
-    while children.at < children.end {
-        let p = children.at;
-        if is_statement(kind(nodes, base, p)) {
-            return p;
-        }
-        children = children.step(nodes).rest;
-    }
-    children.at
-}
-
-// The statements of an entry, from the first one on, as their own part of the node area.
-pub fn statements(nodes: &[u8], base: usize, entry: usize, first: usize) -> &[u8]
-    requires { ⌜ Body (now nodes) base entry first ⌝ }
-    ensures { λ r. ⌜ ((W : View (old nodes) base) → Shown (W .image) (now r) first (treeOf W .end entry)) ⌝ }
-{
-    let from = 16 * (first - base);
-    let to = 16 * (end(nodes, base, entry) - base);
-    &nodes[from..to]
 }
 
 // Whether x is an Ident of a word that is marked.

@@ -24,7 +24,7 @@ use Rattle.rules.proofs.Answers.{list-short, list-listed, buffer-listed, buffer
 use Rattle.records.proofs.Sweep.{run-none, run-next, run-split}
 use Rattle.typeck.specs.declared.Listed.{Listed}
 use Rattle.typeck.specs.declared.Listed.the-variants as the
-use Rattle.typeck.specs.declared.Verdict.{Verdict}
+use Rattle.passes.specs.declared.Verdict.{Verdict}
 use Rattle.typeck.specs.Face.{Stands, answerOf, listingOf, listedOf}
 use Rattle.nodes.proofs.Admission.{refused-number}
 use Rattle.lines.specs.Line.{digits, rest, Printed}

@@ -16,8 +16,8 @@ use Rattle.rules.specs.Linear.{linear}
 use Rattle.rules.specs.Model.{isState, isDeclaredAsset, isKnownAsset}
 use Rattle.rules.specs.Answers.{passAnswer, ask, listAnswer, listBuffer}
 use Rattle.typeck.specs.Face.{verdictOf, replyOf, listedOf, partAnswer, partWords}
-use Rattle.typeck.specs.declared.Verdict.{Verdict}
-use Rattle.typeck.specs.declared.Verdict.the-variants as verdict
+use Rattle.passes.specs.declared.Verdict.{Verdict}
+use Rattle.passes.specs.declared.Verdict.the-variants as verdict
 use Rattle.typeck.specs.declared.Reply.{Reply}
 use Rattle.typeck.specs.declared.Reply.the-variants as reply
 use Rattle.typeck.specs.declared.Listed.{Listed}

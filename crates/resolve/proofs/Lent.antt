@@ -15,13 +15,15 @@ use Rattle.nodes.proofs.Names.{marks-none}
 use Rattle.names.specs.declared.Words.{Words}
 use Rattle.names.specs.Spelled.{Looked}
 use Rattle.model.specs.Assets.{AssetWords}
+use Rattle.resolve_mints.specs.Minted.{Minting}
 use Rattle.resolve_calls.specs.Called as calls
 use Rattle.resolve_calls.specs.Called.{isBuiltin, isMethod}
 use Rattle.resolve_clauses.specs.Said as clauses
+use Rattle.resolve_deployer.specs.Deployed.{DeployerIs}
 use Rattle.resolve.specs.Tables.{LentFirst, CallTables, Called, ResolveTables, firstGroups}
 
 module _ {nodes : List ℕ} {mint : ℕ} {state : List Bool} (T : LentFirst nodes mint state) where
-  abbrev pub by-mint : calls.Minting nodes 0 mint
+  abbrev pub by-mint : Minting nodes 0 mint
   by-mint = record { view = T .view; mint-number = T .mint-number }
 
   abbrev pub by-name : State nodes 0 state
@@ -35,15 +37,15 @@ by-typing T = record { view = T .view; address-number = T .address-number }
 
 module _ {nodes : List ℕ} {address : ℕ} {state declared known fields params builtin method : List Bool} (T : ResolveTables nodes address state declared known fields params builtin method) where
   abbrev pub by-signers : clauses.OneTable nodes 0 state
-  by-signers = record { view = T .called .view; says = isState (treeOf (T .called .view)); tells = T .state-marks }
+  by-signers = record { view = T .ofEntry .view; says = isState (treeOf (T .ofEntry .view)); tells = T .state-marks }
 
   abbrev pub by-clauses : clauses.AssetMarks nodes state declared known
-  by-clauses = record { view = T .called .view; state-marks = T .state-marks; declared-marks = T .declared-marks; known-marks = T .known-marks }
+  by-clauses = record { view = T .ofEntry .view; state-marks = T .state-marks; declared-marks = T .declared-marks; known-marks = T .known-marks }
 
   -- the tables with another that has no parameter marked
-  abbrev pub cleaned : {marked : List Bool} → Marks (T .called .view .image) (λ w. false) marked → ResolveTables nodes address state declared known fields marked builtin method
+  abbrev pub cleaned : {marked : List Bool} → Marks (T .ofEntry .view .image) (λ w. false) marked → ResolveTables nodes address state declared known fields marked builtin method
   cleaned M = record {
-    called = record { view = T .called .view; address-number = T .called .address-number; field-marks = T .called .field-marks; clean = M; builtin-marks = T .called .builtin-marks; method-marks = T .called .method-marks };
+    ofEntry = record { view = T .ofEntry .view; address-number = T .ofEntry .address-number; field-marks = T .ofEntry .field-marks; clean = M; builtin-marks = T .ofEntry .builtin-marks; method-marks = T .ofEntry .method-marks };
     state-marks = T .state-marks;
     declared-marks = T .declared-marks;
     known-marks = T .known-marks;
@@ -60,7 +62,7 @@ module _ {nodes : List ℕ} {words : Words} {state : List Bool} (T : Looked node
   abbrev pub first-of : LentFirst nodes (words .builtins .«mint_asset») state
   first-of = record { view = T .view; root = T .root; mint-number = T .words-are .builtins-are .mint-asset-is; state-marks = T .state-marks }
 
-  abbrev pub deployer-of : clauses.DeployerIs nodes (words .deployer)
+  abbrev pub deployer-of : DeployerIs nodes (words .deployer)
   deployer-of = record { view = T .view; is = T .words-are .deployer-is }
 
   abbrev pub typing-of : calls.AddressTyping nodes (words .address)
@@ -76,7 +78,7 @@ module _ {nodes : List ℕ} {words : Words} {state : List Bool} (T : Looked node
     abbrev pub tables-of : {declared known fields : List Bool} → Marks image (isDeclaredAsset (treeOf (T .view))) declared → Marks image (isKnownAsset (treeOf (T .view))) known → Marks image (isStateTyped (treeOf (T .view)) Q-Address) fields
         → ResolveTables nodes (words .address) state declared known fields (replicate 1024 false) builtin method
     tables-of d k a = record {
-      called = record { view = T .view; address-number = T .words-are .address-is; field-marks = a; clean = none; builtin-marks = b; method-marks = m };
+      ofEntry = record { view = T .view; address-number = T .words-are .address-is; field-marks = a; clean = none; builtin-marks = b; method-marks = m };
       state-marks = T .state-marks;
       declared-marks = d;
       known-marks = k;

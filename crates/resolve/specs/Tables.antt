@@ -39,10 +39,10 @@ pub record Called (nodes : List ℕ) (address : ℕ) (fields params builtin meth
 
 -- also the state names, the declared assets and the known assets
 pub record ResolveTables (nodes : List ℕ) (address : ℕ) (state declared known fields params builtin method : List Bool) : Type 0 where
-  pub called : Called nodes address fields params builtin method
-  pub state-marks : Marks (called .view .image) (isState (treeOf (called .view))) state
-  pub declared-marks : Marks (called .view .image) (isDeclaredAsset (treeOf (called .view))) declared
-  pub known-marks : Marks (called .view .image) (isKnownAsset (treeOf (called .view))) known
+  pub ofEntry : Called nodes address fields params builtin method
+  pub state-marks : Marks (ofEntry .view .image) (isState (treeOf (ofEntry .view))) state
+  pub declared-marks : Marks (ofEntry .view .image) (isDeclaredAsset (treeOf (ofEntry .view))) declared
+  pub known-marks : Marks (ofEntry .view .image) (isKnownAsset (treeOf (ofEntry .view))) known
 
 -- 33 and 34 in an item; an entry's Calls; the rules of an entry in an item; the first six groups
 abbrev pub item33 : ℕ → Tree → List Rec
@@ -64,11 +64,11 @@ lentFirst F nodes mint state T = F (treeOf (T .view))
 abbrev pub worded : (Tree → List Rec) → (nodes : Lent (List ℕ)) (state builtin method : Lent (List Bool)) → CallTables (old nodes) (old state) (old builtin) (old method) → List Rec
 worded F nodes state builtin method T = F (treeOf (T .view))
 
-abbrev pub called : (Tree → List Rec) → (nodes : Lent (List ℕ)) (address : ℕ) (fields params builtin method : Lent (List Bool)) → Called (old nodes) address (old fields) (old params) (old builtin) (old method) → List Rec
-called F nodes address fields params builtin method T = F (treeOf (T .view))
+abbrev pub ofEntry : (Tree → List Rec) → (nodes : Lent (List ℕ)) (address : ℕ) (fields params builtin method : Lent (List Bool)) → Called (old nodes) address (old fields) (old params) (old builtin) (old method) → List Rec
+ofEntry F nodes address fields params builtin method T = F (treeOf (T .view))
 
 abbrev pub lent : (Tree → List Rec) → (nodes : Lent (List ℕ)) (address : ℕ) (state declared known fields params builtin method : Lent (List Bool)) → ResolveTables (old nodes) address (old state) (old declared) (old known) (old fields) (old params) (old builtin) (old method) → List Rec
-lent F nodes address state declared known fields params builtin method T = F (treeOf (T .called .view))
+lent F nodes address state declared known fields params builtin method T = F (treeOf (T .ofEntry .view))
 
 -- no parameter is marked afterwards
 abbrev pub CleansParams : (nodes : Lent (List ℕ)) (address : ℕ) (fields params builtin method : Lent (List Bool)) → Type 0

@@ -1,10 +1,10 @@
 // The resolve pass: codes 20 to 40 of document 01, as the pass's part of the list, the groups in order.
 use image::Image;
+use items::Items;
 use names::Words;
 use nodes::Cursor;
 use nodes::ENTRY;
 use nodes::GENESIS;
-use nodes::Items;
 use nodes::Marks;
 use nodes::NAME;
 use resolve_clauses::Rule;
@@ -18,9 +18,10 @@ ghost use Rattle.records.specs.Words.{old, new};
 ghost use Rattle.records.specs.Records.{Adds};
 ghost use Rattle.nodes.specs.Shown.{In};
 ghost use Rattle.nodes.specs.First.{Head};
-ghost use Rattle.nodes.specs.Items.{ItemsOf, NoItem};
+ghost use Rattle.nodes.specs.Items.{NoItem};
+ghost use Rattle.items.specs.Found.{ItemsOf};
 ghost use Rattle.names.specs.Spelled.{Looked, looked};
-ghost use Rattle.resolve.specs.Tables.{LentFirst, CallTables, Called, ResolveTables, item33, entryCalls, item35, firstGroups, lentFirst, worded, called, lent, CleansParams};
+ghost use Rattle.resolve.specs.Tables.{LentFirst, CallTables, Called, ResolveTables, item33, entryCalls, item35, firstGroups, lentFirst, worded, ofEntry, lent, CleansParams};
 
 // 20, 21, 22, 23, 24 to 29, 30 and 31; `mint_asset` has the number `mint`.
 fn first_groups(nodes: &[u8], items: Items, mint: usize, state: &Marks, out: &mut [u16]) -> usize
@@ -29,9 +30,9 @@ fn first_groups(nodes: &[u8], items: Items, mint: usize, state: &Marks, out: &mu
 {
     let fields = resolve_names::group20(nodes, out, 0);
     let events = resolve_names::group21(items.event, nodes, out, fields);
-    let mints = resolve_calls::group22(nodes, mint, out, events);
+    let mints = resolve_mints::group22(nodes, mint, out, events);
     let overloads = resolve_overloads::group23(nodes, out, mints);
-    let names = resolve_names::group24(nodes, state, out, overloads);
+    let names = resolve_params::group24(nodes, state, out, overloads);
     resolve_events::group30(nodes, items, out, names)
 }
 
@@ -52,8 +53,8 @@ fn genesis(
         return count;
     }
     let total = resolve_clauses::assigns(nodes, item, state, out, count);
-    let first = nodes::first_statement(nodes, 0, item);
-    let body = nodes::statements(nodes, 0, item, first);
+    let first = items::first_statement(nodes, 0, item);
+    let body = items::statements(nodes, 0, item, first);
     resolve_calls::calls34(body, first, builtin, method, out, total)
 }
 
@@ -101,11 +102,11 @@ fn entry_calls(
     count: usize,
 ) -> usize
     requires { ⌜ Called (now nodes) address (now fields) (now params) (now builtin) (now method) × Head (now nodes) 0 entry first × (count < 2 ^ 48) ⌝ }
-    ensures { λ r. ⌜ Adds (called (entryCalls entry) nodes address fields params builtin method) 4096 out count r ⌝ }
+    ensures { λ r. ⌜ Adds (ofEntry (entryCalls entry) nodes address fields params builtin method) 4096 out count r ⌝ }
     ensures { λ _. ⌜ CleansParams nodes address fields params builtin method ⌝ }
 {
     resolve_calls::mark_params(nodes, entry, first, address, true, params);
-    let body = nodes::statements(nodes, 0, entry, first);
+    let body = items::statements(nodes, 0, entry, first);
     if resolve_calls::is_clean(body, first, fields, params, builtin, method) {
         resolve_calls::mark_params(nodes, entry, first, address, false, params);
         return count;
@@ -137,7 +138,7 @@ fn entry(
     if nodes::kind(nodes, 0, item) != ENTRY {
         return count;
     }
-    let first = nodes::first_statement(nodes, 0, item);
+    let first = items::first_statement(nodes, 0, item);
     let signed = resolve_clauses::signers(
         Rule(NAME, false, 35),
         nodes,
@@ -251,9 +252,9 @@ pub fn list(nodes: &[u8], words: Words, state: &Marks, out: &mut [u16]) -> usize
     requires { ⌜ Looked (now nodes) words (now state) ⌝ }
     ensures { λ r. ⌜ Adds (looked resolve nodes words state) (2 ^ 38) out 0 r ⌝ }
 {
-    let items = nodes::find_items(nodes);
+    let items = items::find_items(nodes);
     let builtins = words.builtins;
     let first = first_groups(nodes, items, builtins.mint_asset, state, out);
-    let total = resolve_clauses::group32(nodes, words.deployer, out, first);
+    let total = resolve_deployer::group32(nodes, words.deployer, out, first);
     last_groups(nodes, words, items.genesis, state, out, total)
 }

@@ -1,22 +1,20 @@
--- One node's part in 22, 34 and 40: what each test that is passed says of the rule.
+-- One node's part in 34 and 40: what each test that is passed says of the rule.
 use Prim.Native.Nat.{ℕ, _+_, _<_, _≤_}
 use mathlib.Core.Path.{_≡_, refl, ap, _∙_, sym}
 use mathlib.Core.Bool.{Bool, true, false, not}
-use mathlib.Core.List.{List, [], _∷_}
+use mathlib.Core.List.{List}
 use native.Mathlib.Omega.{arith}
 use borrow.Author.Tests.{eq-eqb, ne-eqb, lt-ltb, le-ltb}
-use Rattle.rules.specs.Sweep.{keep, has, either, same, hasWord}
+use Rattle.rules.specs.Sweep.{keep, has, either}
 use Rattle.rules.specs.Tree.{Tree, call, peels-fields}
-use Rattle.rules.specs.Words.{mint-asset, Q-Address, builtins, methods}
+use Rattle.rules.specs.Words.{Q-Address, builtins, methods}
 use Rattle.rules.specs.Vocabulary.{Rec, rec, only, down, atBottom, isIdent, isField}
 use Rattle.rules.specs.Model.{isStateTyped}
-use Rattle.rules.specs.Resolve.{rule22, rule34, isAddress, rule40}
+use Rattle.rules.specs.Resolve.{rule34, isAddress, rule40}
 use Rattle.records.proofs.Sweep.{has-one, has-not, keep-one, keep-none}
 use Rattle.nodes.specs.Shown.{View, In, treeOf}
-use Rattle.nodes.proofs.Names.{either-false}
 use Rattle.nodes.proofs.Shapes.{first-in}
-use Rattle.nodes.proofs.Fields.{ident-other, ident-so}
-use Rattle.resolve_calls.specs.Called.{at22, at34, at40, paramTyped}
+use Rattle.resolve_calls.specs.Called.{at34, at40, paramTyped}
 
 -- a Call has a callee
 pub callee : {part : List ℕ} {b p : ℕ} (W : View part b) → In part b p → treeOf W .kind p ≡ 43 → In part b (p + 1)
@@ -31,14 +29,6 @@ other-call t p c f n = keep-none f p (has-not (t .kind p) 43 n)
 module _ (t : Tree) (p : ℕ) (k : t .kind p ≡ 43) where
   at-call : (f : ℕ → List Rec) → keep (has (t .kind p) call) f p ≡ f p
   at-call f = keep-one f p (has-one (t .kind p) 43 k)
-
-  pub other-22 : (t .kind (p + 1) ≡ 35 → ⊥) → at22 p t ≡ only false (rec 22 p 0)
-  unfolding rule22
-  other-22 n = at-call (rule22 t) ∙ ap (λ (b : Bool). only b (rec 22 p 0)) (ident-other t (mint-asset ∷ []) (p + 1) n)
-
-  pub ident-22 : {r : Bool} → t .kind (p + 1) ≡ 35 → r ≡ same (t .text (p + 1)) mint-asset → at22 p t ≡ only r (rec 22 p 0)
-  unfolding rule22 hasWord
-  ident-22 i e = at-call (rule22 t) ∙ ap (λ (b : Bool). only b (rec 22 p 0)) (ident-so t (mint-asset ∷ []) (p + 1) i ∙ either-false _ ∙ sym e)
 
   pub builtin-34 : isIdent t builtins (p + 1) ≡ true → at34 p t ≡ only false (rec 34 p 0)
   unfolding rule34

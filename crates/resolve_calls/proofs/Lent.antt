@@ -6,12 +6,9 @@ use Rattle.nodes.specs.Shown.{View, Shown, treeOf}
 use Rattle.nodes.specs.Marks.{Marks}
 use Rattle.rules.specs.Words.{Q-Address}
 use Rattle.rules.specs.Model.{isStateTyped}
-use Rattle.resolve_calls.specs.Called.{Minting, CallWords, Calling, isBuiltin, isMethod, paramTyped}
+use Rattle.resolve_calls.specs.Called.{CallWords, Calling, isBuiltin, isMethod, paramTyped}
 
 module _ {nodes part : List ℕ} {f : ℕ} (item : ℕ) where
-  abbrev pub lent-minting : {mint : ℕ} (T : Minting nodes 0 mint) → Shown (T .view .image) part f (treeOf (T .view) .end item) → Minting part f mint
-  lent-minting T S = record { view = record { image = T .view .image; upto = treeOf (T .view) .end item; shown = S }; mint-number = T .mint-number }
-
   abbrev pub lent-known : {builtin method : List Bool} (W : View nodes 0) → Shown (W .image) part f (treeOf W .end item) → Marks (W .image) isBuiltin builtin → Marks (W .image) isMethod method → CallWords part f builtin method
   lent-known W S M N = record { view = record { image = W .image; upto = treeOf W .end item; shown = S }; builtin-marks = M; method-marks = N }
 

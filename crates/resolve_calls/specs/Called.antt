@@ -1,14 +1,14 @@
--- What the searches for 22, 34 and 40 are lent: nodes, the numbers of words, and tables by name number; what each of them says.
+-- What the searches for 34 and 40 are lent: nodes, the number of a word, and tables by name number; what each of them says.
 use Prim.Native.Nat.{ℕ, _-_}
 use mathlib.Core.Bool.{Bool}
 use mathlib.Core.List.{List}
 use Rattle.image.specs.Pick.{pick, both}
 use Rattle.rules.specs.Sweep.{run, keep, also, has, hasWord}
-use Rattle.rules.specs.Tree.{Tree, bodied, field, param, call}
-use Rattle.rules.specs.Words.{mint-asset, Q-Address, builtins, methods}
-use Rattle.rules.specs.Vocabulary.{Rec, calls, someBelow, named, typed}
+use Rattle.rules.specs.Tree.{Tree, field, param, call}
+use Rattle.rules.specs.Words.{Q-Address, builtins, methods}
+use Rattle.rules.specs.Vocabulary.{Rec, someBelow, named, typed}
 use Rattle.rules.specs.Model.{isStateTyped}
-use Rattle.rules.specs.Resolve.{rule22, rule34, rule40}
+use Rattle.rules.specs.Resolve.{rule34, rule40}
 use Rattle.records.specs.Words.{Lent, old, new}
 use Rattle.nodes.specs.Shown.{View, treeOf}
 use Rattle.nodes.specs.Marks.{Marks, Turned}
@@ -27,16 +27,12 @@ paramAt t w x = both (named t w x) (typed t Q-Address x)
 abbrev pub paramTyped : Tree → ℕ → List ℕ → Bool
 paramTyped t e w = someBelow t param e (paramAt t w)
 
--- nodes from `base` on, with the number of `mint_asset`; of `Q_Address`
-pub record Minting (nodes : List ℕ) (base mint : ℕ) : Type 0 where
-  pub view : View nodes base
-  pub mint-number : Numbered (view .image) mint-asset mint
-
+-- nodes, with the number of `Q_Address`
 pub record AddressTyping (nodes : List ℕ) (address : ℕ) : Type 0 where
   pub view : View nodes 0
   pub address-number : Numbered (view .image) Q-Address address
 
--- with the words that a Call may call
+-- nodes from `base` on, with the words that a Call may call
 pub record CallWords (nodes : List ℕ) (base : ℕ) (builtin method : List Bool) : Type 0 where
   pub view : View nodes base
   pub builtin-marks : Marks (view .image) isBuiltin builtin
@@ -49,33 +45,21 @@ pub record Calling (nodes : List ℕ) (base : ℕ) (fields params : List Bool) :
   pub entry : ℕ
   pub param-marks : Marks (view .image) (paramTyped (treeOf view) entry) params
 
--- 22, 34, 40 at a node; 22 in an item
-abbrev pub at22 : ℕ → Tree → List Rec
-at22 p t = keep (has (t .kind p) call) (rule22 t) p
-
+-- 34, 40 at a node
 abbrev pub at34 : ℕ → Tree → List Rec
 at34 p t = keep (has (t .kind p) call) (rule34 t) p
 
 abbrev pub at40 : ℕ → Tree → ℕ → List Rec
 at40 p t e = keep (has (t .kind p) call) (rule40 t e) p
 
-abbrev pub item22 : ℕ → Tree → List Rec
-item22 p t = keep (has (t .kind p) bodied) (λ i. calls t i (rule22 t)) p
-
--- what F says of the tree of the nodes that are lent, by each of these; of the tree and the entry
-abbrev pub minted : (Tree → List Rec) → (nodes : Lent (List ℕ)) (base mint : ℕ) → Minting (old nodes) base mint → List Rec
-minted F nodes base mint T = F (treeOf (T .view))
-
+-- what F says of the tree of the nodes that are lent; of the tree and the entry
 abbrev pub known : (Tree → List Rec) → (nodes : Lent (List ℕ)) (base : ℕ) (builtin method : Lent (List Bool)) → CallWords (old nodes) base (old builtin) (old method) → List Rec
 known F nodes base builtin method T = F (treeOf (T .view))
 
 abbrev pub called : (Tree → ℕ → List Rec) → (nodes : Lent (List ℕ)) (base : ℕ) (fields params : Lent (List Bool)) → Calling (old nodes) base (old fields) (old params) → List Rec
 called F nodes base fields params T = F (treeOf (T .view)) (T .entry)
 
--- 22, 34, 40 at all of the nodes that are lent
-abbrev pub swept22 : (nodes : Lent (List ℕ)) (base mint : ℕ) → Minting (old nodes) base mint → List Rec
-swept22 nodes base mint T = run (λ p. at22 p (treeOf (T .view))) base (T .view .upto - base)
-
+-- 34, 40 at all of the nodes that are lent
 abbrev pub swept34 : (nodes : Lent (List ℕ)) (base : ℕ) (builtin method : Lent (List Bool)) → CallWords (old nodes) base (old builtin) (old method) → List Rec
 swept34 nodes base builtin method T = run (λ p. at34 p (treeOf (T .view))) base (T .view .upto - base)
 

@@ -1,22 +1,19 @@
 -- What the rules about words are lent: nodes, and tables by name number; what a table says gives a rule at a node.
-use Prim.Native.Nat.{ℕ, _+_, _<_}
+use Prim.Native.Nat.{ℕ, _+_}
 use mathlib.Core.Path.{_≡_}
 use mathlib.Core.Bool.{Bool, not}
 use mathlib.Core.List.{List, [], _∷_}
 use mathlib.Core.Logic.{_⊎_}
 use lib.Dec.{ltb}
 use Rattle.image.specs.Pick.{pick}
-use Rattle.rules.specs.Sweep.{keep, has, same}
-use Rattle.rules.specs.Tree.{Tree, name, param, naming, limits-denies-after, assign, ident}
-use Rattle.rules.specs.Tree as kinds
-use Rattle.rules.specs.Words.{deployer}
+use Rattle.rules.specs.Sweep.{keep, has}
+use Rattle.rules.specs.Tree.{Tree, name, param, naming, assign}
 use Rattle.rules.specs.Vocabulary.{Rec, rec, only, below}
 use Rattle.rules.specs.Model.{isState, isDeclaredAsset, isKnownAsset}
-use Rattle.rules.specs.Resolve.{rule32, rule33, clauseRule, deployerOf}
+use Rattle.rules.specs.Resolve.{rule33, clauseRule}
 use Rattle.records.specs.Words.{Lent, old}
-use Rattle.nodes.specs.Shown.{View, In, treeOf}
+use Rattle.nodes.specs.Shown.{View, treeOf}
 use Rattle.nodes.specs.Marks.{Marks}
-use Rattle.names.specs.Found.{Numbered}
 use Rattle.resolve_clauses.specs.declared.Rule.{Rule}
 
 -- nodes with one table, whatever it says
@@ -24,16 +21,6 @@ pub record OneTable (nodes : List ℕ) (base : ℕ) (marks : List Bool) : Type 0
   pub view : View nodes base
   pub says : List ℕ → Bool
   pub tells : Marks (view .image) says marks
-
--- a table that marks `deployer`
-pub record Deployed (nodes : List ℕ) (base : ℕ) (marks : List Bool) : Type 0 where
-  pub view : View nodes base
-  pub tells : Marks (view .image) (λ w. same w deployer) marks
-
--- nodes of an image in which `deployer` has this number
-pub record DeployerIs (nodes : List ℕ) (number : ℕ) : Type 0 where
-  pub view : View nodes 0
-  pub is : Numbered (view .image) deployer number
 
 -- the state names, the declared assets and the known assets
 pub record AssetMarks (nodes : List ℕ) (state declared known : List Bool) : Type 0 where
@@ -46,12 +33,6 @@ pub record AssetMarks (nodes : List ℕ) (state declared known : List Bool) : Ty
 abbrev pub CarriesWord : ℕ → Type 0
 CarriesWord k = (k ≡ 23) ⊎ (k ≡ 35)
 
--- node e is an Entry
-pub record IsEntry (nodes : List ℕ) (e : ℕ) : Type 0 where
-  pub here : In nodes 0 e
-  pub low : 0 < e
-  pub is : (W : View nodes 0) → treeOf W .kind e ≡ 9
-
 -- a rule (kind, on, code) at the word of node p, where the table says P; at node p, if it is of the rule's kind
 abbrev pub atWord : Rule → (List ℕ → Bool) → Tree → ℕ → List Rec
 atWord R P t p = only (pick (R .1) (P (t .text p)) (not (P (t .text p)))) (rec (R .2) p 0)
@@ -62,16 +43,6 @@ atNode R P t p = keep (has (t .kind p) (R .0 ∷ [])) (atWord R P t) p
 -- what F says of a signer, at node p, if it is a parameter that has one
 abbrev pub atSigner : (ℕ → List Rec) → Tree → ℕ → List Rec
 atSigner F t p = keep (has (t .kind p) param) (λ x. keep (ltb (t .end (x + 2)) (t .end x)) F (t .end (x + 2))) p
-
--- 32 in a node's Idents; in a child of an entry; in an item
-abbrev pub identRules : Tree → ℕ → List Rec
-identRules t c = below t ident c (rule32 t)
-
-abbrev pub clause32 : Tree → ℕ → List Rec
-clause32 t p = keep (has (t .kind p) limits-denies-after) (identRules t) p
-
-abbrev pub item32 : Tree → ℕ → List Rec
-item32 t p = keep (has (t .kind p) kinds.invariant-entry) (deployerOf t) p
 
 -- 33 at a node; 36 to 39 in a clause; in a child of an entry
 abbrev pub at33 : ℕ → Tree → List Rec
@@ -86,12 +57,6 @@ clause36 t p = keep (has (t .kind p) naming) (clauseRules t) p
 -- what F says of the tree of the nodes that are lent (and of what the table says)
 abbrev pub told : ((List ℕ → Bool) → Tree → List Rec) → (nodes : Lent (List ℕ)) (base : ℕ) (marks : Lent (List Bool)) → OneTable (old nodes) base (old marks) → List Rec
 told F nodes base marks T = F (T .says) (treeOf (T .view))
-
-abbrev pub deployed : (Tree → List Rec) → (nodes : Lent (List ℕ)) (base : ℕ) (marks : Lent (List Bool)) → Deployed (old nodes) base (old marks) → List Rec
-deployed F nodes base marks T = F (treeOf (T .view))
-
-abbrev pub byDeployer : (Tree → List Rec) → (nodes : Lent (List ℕ)) (number : ℕ) → DeployerIs (old nodes) number → List Rec
-byDeployer F nodes number T = F (treeOf (T .view))
 
 abbrev pub listed : (Tree → List Rec) → (nodes : Lent (List ℕ)) (state declared known : Lent (List Bool)) → AssetMarks (old nodes) (old state) (old declared) (old known) → List Rec
 listed F nodes state declared known T = F (treeOf (T .view))

@@ -1,60 +1,26 @@
--- What each function is lent: an Emit's Name, the whole area, an event in it, the statements of an item, the contract.
-use Prim.Native.Nat.{ℕ, _+_, _-_, _<_}
-use mathlib.Core.Path.{_≡_, refl, ap, _∙_, sym, subst}
+-- What each function is lent: the statements of an item, the contract.
+use Prim.Native.Nat.{ℕ, _-_, _<_}
+use mathlib.Core.Path.{_≡_, refl, sym, subst}
 use mathlib.Core.Bool.{true}
 use mathlib.Core.List.{List, [], _∷_, List·Memᴰ·eq-of-singleton, List·Memᴰ·cases-cons}
 use mathlib.Core.Logic.{_⊎_, inl, inr, ⊎-elim}
-use native.Mathlib.Omega.{arith}
 use lib.ListN.{replicate}
-use Rattle.image.proofs.Given.{given}
 use Rattle.rules.specs.Sweep.{run, keep, has}
 use Rattle.rules.specs.Standing.{all-items}
 use Rattle.rules.specs.Tree.{event, bodied, emit, statement}
 use Rattle.rules.specs.Vocabulary.{below}
 use Rattle.rules.proofs.Reflect.{tells-has}
 use Rattle.records.proofs.Sweep.{run-below-later}
-use Rattle.nodes.specs.Shown.{View, Shown, In, Worded, treeOf}
+use Rattle.nodes.specs.Shown.{View, Shown, In, treeOf}
 use Rattle.nodes.specs.First.{Starts}
-use Rattle.nodes.proofs.Parts.{kind-is, inside, there, past}
-use Rattle.nodes.proofs.Shapes.{within, allIn, not-in}
-use Rattle.nodes.proofs.Turns.{named-at}
+use Rattle.nodes.proofs.Shapes.{allIn, not-in}
 use Rattle.nodes.proofs.Steps.{statements-of}
 use Rattle.places.specs.Places as places
-use Rattle.places.specs.Places.{notesBelow, lastOf}
+use Rattle.places.specs.Places.{notesBelow}
 use Rattle.places.specs.declared.Note.the-variants as note
 use Rattle.places.proofs.Noting.{places-none}
-use Rattle.places.proofs.Reading.{last-is}
-use Rattle.resolve_events.specs.Emitted.{IsKind, Bodied, EventNotes, Emitted, Events, emitRules}
-
--- the Name of an Emit
-pub emit-name : {nodes : List ℕ} {base m : ℕ} → View nodes base → IsKind nodes base m 26 → Worded nodes base (m + 1)
-unfolding has
-emit-name W I = named-at W (I .0) (omega arith, refl) (I .1 W)
-
--- the nodes alone; the whole area, and an event in it
-module _ {nodes : List ℕ} {base : ℕ} {area last : List ℕ} (T : Emitted nodes base area last) where
-  abbrev pub noted-of : EventNotes nodes base last
-  noted-of = record { view = T .body .view; lasts = T .lasts }
-
-  abbrev pub area-of : View area 0
-  area-of = record { image = T .body .view .image; upto = T .upto; shown = T .shown }
-
-  -- the Emit stands in the whole area too
-  pub emit-in : {m : ℕ} → IsKind nodes base m 26 → IsKind area 0 m 26
-  emit-in {m} I =
-      let W = T .body .view in
-      let u = inside W (I .0) in
-      let v = W .shown .high in
-      let e = given (W .image) (W .shown .admitted) .nodes .root-end in
-      let z = past area-of (T .root) .1 in
-      let i : In area 0 m = there area-of (omega arith) (omega arith) in
-      (i, λ X. sym (kind-is X i) ∙ kind-is area-of i ∙ I .1 W)
-
-  pub event-in : (w : List ℕ) (v : ℕ) → v ≡ lastOf (treeOf (T .body .view)) event 0 w → (v ≡ 0 → ⊥) → IsKind area 0 v 5
-  event-in w v d n =
-      let L = last-is (treeOf (T .body .view)) event 0 w (omega (arith, n)) .is .0 in
-      let i : In area 0 v = rw d (within area-of (T .root) (L .after) (L .inside)) in
-      (i, λ W. sym (kind-is W i) ∙ kind-is area-of i ∙ ap (treeOf (T .body .view) .kind) d ∙ List·Memᴰ·eq-of-singleton (L .kind))
+use Rattle.resolve_emits.specs.Emitted.{Emitted, emitRules}
+use Rattle.resolve_events.specs.Events.{Bodied, Events}
 
 -- the kinds of items that hold statements
 pub is-bodied : (k : ℕ) → Bodied k → (k ≡ 7) ⊎ (k ≡ 9)
@@ -65,9 +31,9 @@ unfolding allIn has
 is-item k b = ⊎-elim (λ (e : k ≡ 7). rw e refl) (λ (e : k ≡ 9). rw e refl) (is-bodied k b)
 
 -- an item's statements, lent
-abbrev pub lent : {nodes part last : List ℕ} {f k item : ℕ} (T : Events nodes last) → In nodes 0 item → 0 < item → treeOf (T .noted .view) .kind item ≡ k → Bodied k → Starts (T .noted .view) item f → Shown (T .noted .view .image) part f (treeOf (T .noted .view) .end item)
+abbrev pub lent : {nodes part last : List ℕ} {f k item : ℕ} (T : Events nodes last) → In nodes 0 item → 0 < item → treeOf (T .emitting .view) .kind item ≡ k → Bodied k → Starts (T .emitting .view) item f → Shown (T .emitting .view .image) part f (treeOf (T .emitting .view) .end item)
     → Emitted part f nodes last
-lent T i z e k S P = record { body = statements-of (T .noted .view) i z (is-bodied _ (subst Bodied (sym e) k)) S P; lasts = T .noted .lasts; upto = T .noted .view .upto; shown = T .noted .view .shown; root = T .root }
+lent T i z e k S P = record { body = statements-of (T .emitting .view) i z (is-bodied _ (subst Bodied (sym e) k)) S P; lasts = T .emitting .lasts; upto = T .emitting .view .upto; shown = T .emitting .view .shown; root = T .root }
 
 -- the Emits from the first statement of an item on are those of the item
 pub item-emits : {nodes : List ℕ} {p f : ℕ} (W : View nodes 0) → Starts W p f → run (λ i. keep (has (treeOf W .kind i) emit) (emitRules (treeOf W)) i) f (treeOf W .end p - f) ≡ below (treeOf W) emit p (emitRules (treeOf W))
@@ -76,4 +42,4 @@ item-emits {p = p} {f = f} W S = run-below-later (treeOf W) emit (emitRules (tre
 
 -- the contract, with the last event of each name noted in a fresh table
 abbrev pub events-of : {nodes last : List ℕ} (W : View nodes 0) → In nodes 0 0 → places.Noted (λ (W : View nodes 0). W .image) (λ W. notesBelow note.Last (treeOf W) event 0) (replicate 1024 0) last → Events nodes last
-events-of W i f = record { noted = record { view = W; lasts = f W (λ w. 0) (places-none (W .image) (W .shown .admitted)) }; root = i }
+events-of W i f = record { emitting = record { view = W; lasts = f W (λ w. 0) (places-none (W .image) (W .shown .admitted)) }; root = i }

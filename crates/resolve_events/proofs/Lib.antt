@@ -1,5 +1,2 @@
 pub mod Absent
-pub mod Counting
-pub mod Params
-pub mod Laws
 pub mod Lent

@@ -5,6 +5,7 @@ use mathlib.Core.Bool.{Bool, true}
 use mathlib.Core.List.{List}
 use lib.Dec.{eqb, ltb}
 use lib.ListN.{length, getD}
+use Rattle.image.specs.Maxima.{maxNodes}
 use Rattle.image.specs.Pick.{pick}
 use Rattle.rules.specs.Sweep.{also, has}
 use Rattle.rules.specs.Tree.{Tree, tree, entry}
@@ -38,11 +39,11 @@ paramsKey s e zero k p = k
 paramsKey s e (suc n) k p = pick (isParam (tree s) e p) (paramsKey s e n (typeKey s k (p + 2)) (tree s .end p)) k
 
 unfoldable pub keyOf : List ℕ → ℕ → ℕ
-keyOf s e = paramsKey s e 2048 (number s (e + 1)) (e + 2)
+keyOf s e = paramsKey s e maxNodes (number s (e + 1)) (e + 2)
 
 -- where an entry is looked up by its key: a name alone has a place of its own
 unfoldable pub slot : ℕ → ℕ
-slot k = pick (ltb k 2048) k (2048 + k % 2048)
+slot k = pick (ltb k maxNodes) k (maxNodes + k % maxNodes)
 
 -- the last number below n that passes the test; 0 if none does
 unfoldable pub last : (ℕ → Bool) → ℕ → ℕ
@@ -59,7 +60,7 @@ fallsTo s b i = also (isNew s i) (λ e. eqb (slot (keyOf s e)) b) i
 
 -- The entries before p that are the first of their signature: the last one of each slot, for each entry the one before it there, and its key.
 pub record Chains (s : List ℕ) (p : ℕ) (heads links keys : List ℕ) : Type 0 where
-  pub sizes : (length heads ≡ 4096) × (length links ≡ 2048) × (length keys ≡ 2048)
+  pub sizes : (length heads ≡ 4096) × (length links ≡ maxNodes) × (length keys ≡ maxNodes)
   pub head : (b : ℕ) → b < 4096 → getD heads b 0 ≡ last (fallsTo s b) p
   pub link : (i : ℕ) → 0 < i → i < p → isNew s i ≡ true → getD links i 0 ≡ last (fallsTo s (slot (keyOf s i))) i
   pub key : (i : ℕ) → 0 < i → i < p → isNew s i ≡ true → getD keys i 0 ≡ keyOf s i

@@ -1,32 +1,27 @@
--- The answers of specs/Answers are what the facts allow, and nothing else is; and what a list, or a part of one, leaves in its buffer.
+-- The answers of specs/Answers, case by case: refused, admitted; and what a list, or a part of one, leaves in its buffer.
 use Prim.Native.Nat.{ℕ, zero, suc, _+_, _*_, _<_, _≤_}
 use mathlib.Core.Path.{_≡_, refl, ap, _∙_, sym, subst}
-use mathlib.Core.Bool.{Bool, true, false, true≢false}
+use mathlib.Core.Bool.{Bool, true, false}
 use mathlib.Core.List.{List, [], _∷_, _++_, List·Memᴰ, List·Memᴰ·head, List·Memᴰ·not-nil}
 use mathlib.Core.Logic.{_⊎_, inl, inr, ⊎-elim}
 use native.Mathlib.Omega.{arith}
 use borrow.Author.Tests.{ltb-true, ltb-false, lt-ltb, le-ltb, eqb-true, eqb-false, eq-eqb, ne-eqb}
 use lib.Dec.{ltb, eqb}
 use lib.ListN.{length, getD, set, take, drop, length-set}
-use lib.Seq.{sets, length-sets, ext-getD, getD-set-same, getD-set-other}
+use lib.Seq.{sets, length-sets, getD-set-same, getD-set-other}
 use Rattle.image.specs.Pick.{pick}
 use Rattle.image.specs.Text.{namesOk}
 use Rattle.image.specs.Tree.{treeOk, depthOk, usedOk}
 use Rattle.image.specs.Admit.{nodeCount, nameCount, nodesOf, namesOf, textPart, lengthOk, versionOk, countsOk, layoutOk, headerRefusal, bodyRefusal, refusal}
 use Rattle.rules.specs.Tree.{Tree, tree}
 use Rattle.rules.specs.Vocabulary.{Rec}
-use Rattle.rules.specs.Model.{StateName, isState, DeclaredAsset, isDeclaredAsset, KnownAsset, isKnownAsset}
 use Rattle.rules.specs.Resolve.{resolve}
 use Rattle.rules.specs.Access.{access}
 use Rattle.rules.specs.Linear.{linear}
-use Rattle.rules.specs.All.{offences, FullList}
-use Rattle.rules.specs.Passes.{PassRules, resolving, accessing, linearity, None, FirstOffence, Judges}
-use Rattle.rules.specs.Answers.{Answer, imageRefused, verdict, passAnswer, NameReply, replyRefused, replied, ask, words, laid, ListReply, listRefused, listHas, listAnswer, listBuffer, partCount, partBuffer, onRest, InTurn}
-use Rattle.rules.specs.Allowed.{IsRefused, IsAdmitted, PassAllowed, ReplyAllowed, ListAllowed}
-use Rattle.rules.proofs.Reflect.{Tells}
-use Rattle.rules.proofs.Model.{tells-isState, tells-isDeclaredAsset, tells-isKnownAsset}
-use Rattle.rules.proofs.Full.{full, only-full}
-use Rattle.rules.proofs.Passes.{judges-resolve, judges-access, judges-linear}
+use Rattle.rules.specs.All.{offences}
+use Rattle.rules.specs.Passes.{PassRules, None, FirstOffence}
+use Rattle.rules.specs.Answers.{IsRefused, IsAdmitted, imageRefused, accepted, refusedAt, verdict, passAnswer, NameReply, replyRefused, replied, ask, words, laid, ListReply, listRefused, listHas, listAnswer, listBuffer, partCount, partBuffer, partAnswer, partWords, onRest, InTurn}
+use Rattle.rules.proofs.Passes.{Judges}
 
 -- an image is admitted or refused
 pub decide : (s : List ℕ) → IsAdmitted s ⊎ IsRefused s
@@ -71,65 +66,25 @@ module _ (p : PassRules) (s : List ℕ) (j : IsAdmitted s → Judges (tree s) p)
       go [] n f = inl (n refl)
       go (r ∷ l) n f = inr (f (λ z. absurd (List·Memᴰ·not-nil (subst (λ (m : List Rec). List·Memᴰ r m) z (List·Memᴰ·head refl)))))
 
-  pub pass-allowed : PassAllowed p s (passAnswer (p .part) s)
-  pass-allowed = record {
-    refused = pass-refused (p .part) s;
-    accepts = λ e n. pass-admitted (p .part) s e ∙ ap (verdict s) (j e .accepts .1 n);
-    refuses = λ e r f. pass-admitted (p .part) s e ∙ ap (verdict s) (j e .refuses r f .1);
-  }
+  pub pass-accepts : IsAdmitted s → None (tree s) p → passAnswer (p .part) s ≡ accepted
+  pass-accepts e n = pass-admitted (p .part) s e ∙ ap (verdict s) (j e .accepts .1 n)
 
-  -- two allowed answers are equal
-  pub pass-only : (a b : Answer) → PassAllowed p s a → PassAllowed p s b → a ≡ b
-  pass-only a b x y = ⊎-elim admits (λ n. x .refused n ∙ sym (y .refused n)) (decide s)
-    where
-      admits : IsAdmitted s → a ≡ b
-      admits e = ⊎-elim (λ n. x .accepts e n ∙ sym (y .accepts e n)) (λ f. x .refuses e (f .0) (f .1) ∙ sym (y .refuses e (f .0) (f .1))) (decided e)
-
-module _ (s : List ℕ) where
-  pub resolve-allowed : PassAllowed resolving s (passAnswer resolve s)
-  resolve-allowed = pass-allowed resolving s (judges-resolve s)
-
-  pub access-allowed : PassAllowed accessing s (passAnswer access s)
-  access-allowed = pass-allowed accessing s (judges-access s)
-
-  pub linear-allowed : PassAllowed linearity s (passAnswer linear s)
-  linear-allowed = pass-allowed linearity s (judges-linear s)
+  pub pass-refuses : IsAdmitted s → (r : Rec) → FirstOffence (tree s) p r → passAnswer (p .part) s ≡ refusedAt s (r .code) (r .place)
+  pass-refuses e r f = pass-admitted (p .part) s e ∙ ap (verdict s) (j e .refuses r f .1)
 
 -- A question
 
-module _ (q : Tree → List ℕ → Bool) (Q : Tree → List ℕ → Type 0) (h : (t : Tree) (w : List ℕ) → Tells (q t w) (Q t w)) (s w : List ℕ) where
-  abbrev answers : Bool → Bool → NameReply
-  answers b c = pick b (replied c) (replyRefused (refusal s))
+module _ (q : Tree → List ℕ → Bool) (s w : List ℕ) where
+  abbrev answers : Bool → NameReply
+  answers b = pick b (replied (q (tree s) w)) (replyRefused (refusal s))
 
-  pub ask-allowed : ReplyAllowed Q s w (ask q s w)
+  pub ask-refused : IsRefused s → ask q s w ≡ replyRefused (refusal s)
   unfolding ask
-  ask-allowed = record {
-    refused = λ n. ap (λ (b : Bool). answers b (q (tree s) w)) (ne-eqb (refusal s) 0 n);
-    yes = λ e f. ap (λ (b : Bool). answers b (q (tree s) w)) (eq-eqb (refusal s) 0 e) ∙ ap replied (h (tree s) w .back f);
-    no = λ e f. ap (λ (b : Bool). answers b (q (tree s) w)) (eq-eqb (refusal s) 0 e) ∙ ap replied (not-so (q (tree s) w) refl f);
-  }
-    where
-      not-so : (b : Bool) → q (tree s) w ≡ b → (Q (tree s) w → ⊥) → q (tree s) w ≡ false
-      not-so true z f = absurd (f (h (tree s) w .so z))
-      not-so false z f = z
+  ask-refused n = ap answers (ne-eqb (refusal s) 0 n)
 
-  pub ask-only : (a b : NameReply) → ReplyAllowed Q s w a → ReplyAllowed Q s w b → a ≡ b
-  ask-only a b x y = ⊎-elim (λ e. go e (q (tree s) w) refl) (λ n. x .refused n ∙ sym (y .refused n)) (decide s)
-    where
-      go : IsAdmitted s → (c : Bool) → q (tree s) w ≡ c → a ≡ b
-      go e true z = let f = h (tree s) w .so z in x .yes e f ∙ sym (y .yes e f)
-      go e false z =
-          let f : Q (tree s) w → ⊥ = λ g. true≢false (sym (h (tree s) w .back g) ∙ z) in
-          x .no e f ∙ sym (y .no e f)
-
-pub state-allowed : (s w : List ℕ) → ReplyAllowed StateName s w (ask isState s w)
-state-allowed = ask-allowed isState StateName tells-isState
-
-pub declared-allowed : (s w : List ℕ) → ReplyAllowed DeclaredAsset s w (ask isDeclaredAsset s w)
-declared-allowed = ask-allowed isDeclaredAsset DeclaredAsset tells-isDeclaredAsset
-
-pub known-allowed : (s w : List ℕ) → ReplyAllowed KnownAsset s w (ask isKnownAsset s w)
-known-allowed = ask-allowed isKnownAsset KnownAsset tells-isKnownAsset
+  pub ask-admitted : IsAdmitted s → ask q s w ≡ replied (q (tree s) w)
+  unfolding ask
+  ask-admitted e = ap answers (eq-eqb (refusal s) 0 e)
 
 -- Words and buffers
 
@@ -273,43 +228,21 @@ module _ (s : List ℕ) where
               let k : listAnswer s (length o) .records ≡ count = ap (λ (a : ListReply). a .records) (list-listed (length o) e l) in
               ap (λ (b : List ℕ). getD b i 0) (buffer-listed o e l) ∙ laid-kept o (offences (tree s)) i (omega arith)
 
-  pub list-allowed : (o : List ℕ) → ListAllowed s o (listAnswer s (length o)) (listBuffer s o)
-  list-allowed o = record {
-    long = buffer-long o;
-    refused = λ r. (list-refused (length o) r, buffer-refused o r);
-    short = λ e l f h. let n = same e l f in (list-short (length o) e (omega arith), buffer-short o e (omega arith));
-    full = λ e l f h. let n = same e l f in list-listed (length o) e (omega arith) ∙ ap listHas n;
-    written = λ e l f h i g.
-        let n = same e l f in
-        ap (λ (b : List ℕ). getD b i 0) (buffer-listed o e (omega arith)) ∙ laid-written o (offences (tree s)) i (omega arith) (omega arith)
-        ∙ ap (λ (m : List Rec). getD (words m) i 0) (sym (only-full s e l f));
-    kept = λ e l f h i g. let n = same e l f in ap (λ (b : List ℕ). getD b i 0) (buffer-listed o e (omega arith)) ∙ laid-kept o (offences (tree s)) i (omega arith);
-  }
-    where
-      same : IsAdmitted s → (l : List Rec) → FullList (tree s) l → count ≡ length l
-      same e l f = ap length (sym (only-full s e l f))
+-- A pass's part of the list
 
-  -- two allowed answers are equal, with what they leave in the buffer
-  pub list-only :
-      (o : List ℕ) (a b : ListReply) (x y : List ℕ) → ListAllowed s o a x → ListAllowed s o b y → (a ≡ b) × (x ≡ y)
-  list-only o a b x y g h = ⊎-elim admitted (λ r. (g .refused r .0 ∙ sym (h .refused r .0), g .refused r .1 ∙ sym (h .refused r .1))) (decide s)
-    where
-      admitted : IsAdmitted s → (a ≡ b) × (x ≡ y)
-      admitted e = go (ltb (length o) (3 * count)) refl
-        where
-          f : FullList (tree s) (offences (tree s))
-          f = full s e
+module _ (pass : Tree → List Rec) (s : List ℕ) where
+  pub part-refused : IsRefused s → partAnswer pass s ≡ listRefused (refusal s)
+  unfolding partAnswer
+  part-refused r = ap (λ (b : Bool). pick b (listHas (partCount pass s)) (listRefused (refusal s))) (ne-eqb (refusal s) 0 r)
 
-          go : (t : Bool) → ltb (length o) (3 * count) ≡ t → (a ≡ b) × (x ≡ y)
-          go true q =
-              let l = ltb-true (length o) (3 * count) q in
-              let u = g .short e _ f l in
-              let v = h .short e _ f l in
-              (u .0 ∙ sym (v .0), u .1 ∙ sym (v .1))
-          go false q =
-              let l = ltb-false (length o) (3 * count) q in
-              (g .full e _ f l ∙ sym (h .full e _ f l), ext-getD 0 x y (g .long ∙ sym (h .long)) (λ i k. side l i (ltb i (3 * count)) refl))
-            where
-              side : 3 * count ≤ length o → (i : ℕ) (t : Bool) → ltb i (3 * count) ≡ t → getD x i 0 ≡ getD y i 0
-              side l i true q = g .written e _ f l i (ltb-true _ _ q) ∙ sym (h .written e _ f l i (ltb-true _ _ q))
-              side l i false q = g .kept e _ f l i (ltb-false _ _ q) ∙ sym (h .kept e _ f l i (ltb-false _ _ q))
+  pub part-admitted : IsAdmitted s → partAnswer pass s ≡ listHas (partCount pass s)
+  unfolding partAnswer
+  part-admitted e = ap (λ (b : Bool). pick b (listHas (partCount pass s)) (listRefused (refusal s))) (eq-eqb (refusal s) 0 e)
+
+  pub part-words-refused : (o : List ℕ) → IsRefused s → partWords pass s o ≡ o
+  unfolding partWords
+  part-words-refused o r = ap (λ (b : Bool). pick b (partBuffer pass s o) o) (ne-eqb (refusal s) 0 r)
+
+  pub part-words-admitted : (o : List ℕ) → IsAdmitted s → partWords pass s o ≡ partBuffer pass s o
+  unfolding partWords
+  part-words-admitted o e = ap (λ (b : Bool). pick b (partBuffer pass s o) o) (eq-eqb (refusal s) 0 e)

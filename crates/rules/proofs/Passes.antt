@@ -15,7 +15,7 @@ use Rattle.rules.specs.Resolve.{resolve}
 use Rattle.rules.specs.Access.{access}
 use Rattle.rules.specs.Linear.{linear}
 use Rattle.rules.specs.All.{Offence, offences, Ordered, key}
-use Rattle.rules.specs.Passes.{PassRules, resolving, accessing, linearity, Of, ofPass, None, FirstOffence, Judges}
+use Rattle.rules.specs.Passes.{PassRules, resolving, accessing, linearity, Of, ofPass, None, FirstOffence}
 use Rattle.rules.proofs.Reflect.{Tells, Finds, tells-both, finds-as}
 use Rattle.rules.proofs.Resolve.{Found24, Found35, finds-resolve, unknown-so}
 use Rattle.rules.proofs.Access.{finds-access}
@@ -23,6 +23,16 @@ use Rattle.rules.proofs.Linear.{finds-linear}
 use Rattle.rules.proofs.Exact.{finds-offences}
 use Rattle.rules.proofs.Unique.{apart}
 use Rattle.rules.proofs.Full.{full}
+
+-- what a pass does, from which demands 2 and 3 follow
+pub record Judges (t : Tree) (p : PassRules) : Type 0 where
+  -- its records are those of the full list that have its codes
+  pub part : ofPass p (offences t) ≡ p .part t
+  -- it has none exactly when there is none of its offences
+  pub accepts : (p .part t ≡ []) ↔ None t p
+  -- else there is a first of them, and its first record is that
+  pub has-first : (p .part t ≡ [] → ⊥) → (r : Rec) × FirstOffence t p r
+  pub refuses : (r : Rec) → FirstOffence t p r → (l : List Rec) × (p .part t ≡ r ∷ l)
 
 -- The records of a pass among those of a list
 

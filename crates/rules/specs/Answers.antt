@@ -1,22 +1,31 @@
--- The answers in document 01's numbers: of a pass, of a question about a name, of the full list and its buffer.
--- Refusals 1 to 9 return their number with place, spans and record count 0 and change no lent memory. Acceptance is 0, place 0,
--- spans 0.
+-- The answers in document 01's numbers: of a pass, of a question about a name, of the full list and of a pass's part of it with their
+-- buffer, of the rows that the linear pass is lent, and as plain numbers. Refusals 1 to 9 return their number with place, spans and
+-- record count 0 and change no lent memory. Acceptance is 0, place 0, spans 0.
 use Prim.Native.Nat.{ℕ, _+_, _*_}
 use mathlib.Core.Path.{_≡_}
 use mathlib.Core.Bool.{Bool, false}
 use mathlib.Core.List.{List, [], _∷_, _++_}
 use lib.Dec.{ltb, eqb}
-use lib.ListN.{length, take, drop}
+use lib.ListN.{length, replicate, take, drop}
 use lib.Seq.{sets}
+use Rattle.image.specs.Maxima.{maxRows}
 use Rattle.image.specs.Pick.{pick}
 use Rattle.image.specs.Admit.{refusal, nodesOf}
-use Rattle.image.specs.Node.{fullWord}
+use Rattle.image.specs.Node.{fromOf, toOf}
 use Rattle.rules.specs.Tree.{Tree, tree}
-use Rattle.rules.specs.Vocabulary.{Rec}
+use Rattle.rules.specs.Record.{Rec}
 use Rattle.rules.specs.Resolve.{resolve}
 use Rattle.rules.specs.Access.{access}
 use Rattle.rules.specs.Linear.{linear}
 use Rattle.rules.specs.All.{offences}
+
+-- An image is refused by a number, or admitted
+
+abbrev pub IsRefused : List ℕ → Type 0
+IsRefused s = refusal s ≡ 0 → ⊥
+
+abbrev pub IsAdmitted : List ℕ → Type 0
+IsAdmitted s = refusal s ≡ 0
 
 -- A pass
 
@@ -28,10 +37,10 @@ pub record Answer : Type 0 where
 
 -- the span words of node i of an image
 abbrev pub spanFrom : List ℕ → ℕ → ℕ
-spanFrom s i = fullWord (nodesOf s) (16 * i + 8)
+spanFrom s i = fromOf (nodesOf s) i
 
 abbrev pub spanTo : List ℕ → ℕ → ℕ
-spanTo s i = fullWord (nodesOf s) (16 * i + 12)
+spanTo s i = toOf (nodesOf s) i
 
 -- its cases: the image is refused; the pass accepts; it refuses with a code and a place
 abbrev pub imageRefused : ℕ → Answer
@@ -107,13 +116,21 @@ listAnswer s size =
 unfoldable pub listBuffer : List ℕ → List ℕ → List ℕ
 listBuffer s o = pick (eqb (listAnswer s (length o) .number) 0) (laid o 0 (offences (tree s))) o
 
--- Each pass writes its records into the rest of the buffer from where the last one stopped: of an admitted image, how many it
--- counts, and what it makes of that rest
+-- A pass's part of the list. Each pass writes its records into the rest of the buffer from where the last one stopped: of an admitted
+-- image, how many it counts, and what it makes of that rest
+
 abbrev pub partCount : (Tree → List Rec) → List ℕ → ℕ
 partCount pass s = length (pass (tree s))
 
 abbrev pub partBuffer : (Tree → List Rec) → List ℕ → List ℕ → List ℕ
 partBuffer pass s o = laid o 0 (pass (tree s))
+
+-- Called alone it counts all its records and has no refusal 9: those that fit are written from the buffer's start.
+unfoldable pub partAnswer : (Tree → List Rec) → List ℕ → ListReply
+partAnswer pass s = pick (eqb (refusal s) 0) (listHas (partCount pass s)) (listRefused (refusal s))
+
+unfoldable pub partWords : (Tree → List Rec) → List ℕ → List ℕ → List ℕ
+partWords pass s o = pick (eqb (refusal s) 0) (partBuffer pass s o) o
 
 -- the buffer o with what f makes of the rest of it after k records
 abbrev pub onRest : ℕ → (List ℕ → List ℕ) → List ℕ → List ℕ
@@ -126,3 +143,14 @@ InTurn =
     → laid o 0 (offences (tree s))
     ≡ onRest (partCount resolve s + partCount access s) (partBuffer linear s)
     (onRest (partCount resolve s) (partBuffer access s) (partBuffer resolve s o))
+
+-- A table of tracked rows that the linear pass is lent by its public form, always 511 long: as it was on refusal 1 to 8, else all blank
+abbrev pub lentRows : {R : Type 0} → R → List ℕ → List R → List R
+lentRows blank s rows = pick (eqb (refusal s) 0) (replicate maxRows blank) rows
+
+-- A verdict as plain numbers: its number, its place and the place's two span words; those of all passes
+abbrev pub row : Answer → List ℕ
+row a = a .number ∷ a .place ∷ a .from ∷ a .to ∷ []
+
+abbrev pub verdictRows : List ℕ → List ℕ
+verdictRows s = row (passAnswer resolve s) ++ row (passAnswer access s) ++ row (passAnswer linear s)

@@ -1,8 +1,10 @@
 -- Contracts written as nested nodes, and the image that holds one: what the worked patterns are written with.
 -- Siblings follow one another by ++, and a node holds what stands in its parentheses: an-entry (a-name "e" ++ a-limits (an-ident "x")).
+-- mark "x" (..) gives the first node in the parentheses the label x.
 use Prim.Native.Nat.{ℕ, suc, _+_, _*_, _/_, _%_}
 use Prim.Native.String.{String}
 use mathlib.Core.List.{List, [], _∷_, _++_}
+use lib.Dec.{eqb}
 use lib.ListN.{length}
 use Rattle.image.specs.Pick.{pick}
 use Rattle.image.specs.Text.{less}
@@ -75,6 +77,27 @@ unfolding same less put names numberIn nodeBytes textOffsets joined header
 imageOf l =
     let ns = names l in
     header (length l) (length ns) (length (joined ns)) ++ nodeBytes ns 0 l ++ textOffsets 0 ns ++ joined ns
+
+-- Labels: a contract is written with a labelling. What packs it labels nothing; what looks for a label flags the node that has it.
+
+abbrev pub Labelled : Type 0
+Labelled = (String → Nodes → Nodes) → Nodes
+
+abbrev pub unlabelled : Labelled → Nodes
+unlabelled c = c (λ w l. l)
+
+unfoldable pub flag : Nodes → Nodes
+flag [] = []
+flag (p ∷ l) = record { kind = 255; text = []; size = p .size } ∷ l
+
+unfoldable pub flagged : Nodes → ℕ
+flagged [] = 0
+flagged (p ∷ l) = let rest = flagged l in pick (eqb (p .kind) 255) 0 (suc rest)
+
+-- the number of the node that has the label w; past the last one if none has
+unfoldable pub place : Labelled → String → ℕ
+unfolding same bytes flag flagged
+place c w = flagged (c (λ v l. pick (same (bytes v) (bytes w)) (flag l) l))
 
 -- The kinds, by document 01's names
 

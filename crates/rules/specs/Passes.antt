@@ -1,17 +1,17 @@
--- Demand 3, pass by pass: the list has no offence of a pass exactly when the pass accepts; else the first of them is the one that it
--- refuses with. Proved in proofs/Passes of the tree of every admitted image.
+-- The passes of document 01: which offences are a pass's, and which one is its first.
 use Prim.Native.Nat.{ℕ, _≤_}
 use mathlib.Core.Path.{_≡_}
+use mathlib.Core.Bool.{_&&_}
 use mathlib.Core.List.{List, [], _∷_}
-use mathlib.Core.Logic.{_⊎_, _↔_}
+use mathlib.Core.Logic.{_⊎_}
 use lib.Dec.{leb}
-use Rattle.image.specs.Pick.{pick, both}
+use Rattle.image.specs.Pick.{pick}
 use Rattle.rules.specs.Tree.{Tree}
-use Rattle.rules.specs.Vocabulary.{Rec}
+use Rattle.rules.specs.Record.{Rec}
 use Rattle.rules.specs.Resolve.{resolve}
 use Rattle.rules.specs.Access.{access}
 use Rattle.rules.specs.Linear.{linear}
-use Rattle.rules.specs.All.{Offence, offences, Before, key}
+use Rattle.rules.specs.All.{Offence, Before, key}
 
 -- a pass: its part of the list, and its codes
 pub record PassRules : Type 0 where
@@ -36,7 +36,7 @@ Of p r = (p .least ≤ r .code) × (r .code ≤ p .most)
 unfoldable pub ofPass : PassRules → List Rec → List Rec
 ofPass p [] = []
 ofPass p (r ∷ l) =
-    pick (both (leb (p .least) (r .code)) (leb (r .code) (p .most))) (r ∷ ofPass p l) (ofPass p l)
+    pick (leb (p .least) (r .code) && leb (r .code) (p .most)) (r ∷ ofPass p l) (ofPass p l)
 
 -- no offence of the contract is one of the pass's
 abbrev pub None : Tree → PassRules → Type 0
@@ -47,13 +47,3 @@ pub record FirstOffence (t : Tree) (p : PassRules) (r : Rec) : Type 0 where
   pub is : Offence t r
   pub of : Of p r
   pub first : (q : Rec) → Offence t q → Of p q → (q ≡ r) ⊎ Before (key t r) (key t q)
-
--- what a pass does
-pub record Judges (t : Tree) (p : PassRules) : Type 0 where
-  -- its records are those of the full list that have its codes
-  pub part : ofPass p (offences t) ≡ p .part t
-  -- it has none exactly when there is none of its offences
-  pub accepts : (p .part t ≡ []) ↔ None t p
-  -- else there is a first of them, and its first record is that
-  pub has-first : (p .part t ≡ [] → ⊥) → (r : Rec) × FirstOffence t p r
-  pub refuses : (r : Rec) → FirstOffence t p r → (l : List Rec) × (p .part t ≡ r ∷ l)

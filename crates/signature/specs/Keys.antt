@@ -2,6 +2,7 @@
 use Prim.Native.Nat.{ℕ, zero, suc, _+_}
 use mathlib.Core.Bool.{Bool, true, not}
 use lib.Dec.{eqb, ltb}
+use Rattle.image.specs.Maxima.{maxNodes}
 use Rattle.image.specs.Pick.{pick, both}
 use Rattle.rules.specs.Sweep.{same}
 use Rattle.rules.specs.Tree.{Tree}
@@ -21,4 +22,4 @@ sameParams t g e (suc n) p q =
 
 -- the entries g and e have one name and the same parameters' types, node by node
 unfoldable pub sameNodes : Tree → ℕ → ℕ → Bool
-sameNodes t g e = both (same (t .text (g + 1)) (t .text (e + 1))) (sameParams t g e 2048 (g + 2) (e + 2))
+sameNodes t g e = both (same (t .text (g + 1)) (t .text (e + 1))) (sameParams t g e maxNodes (g + 2) (e + 2))

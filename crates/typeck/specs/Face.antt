@@ -1,48 +1,21 @@
 -- What the public functions answer: document 01's numbers for each case of an enum, the case that numbers name, and what is promised of
--- an answer: the numbers of the rules, and no other case than they name.
+-- an answer: the numbers of the rules, and no other case than they name. A pass's own answer is that of `passes`, passed on here.
 use Prim.Native.Nat.{ℕ}
 use mathlib.Core.Path.{_≡_}
 use mathlib.Core.Bool.{Bool, true, false}
 use mathlib.Core.List.{List}
-use lib.Dec.{eqb, ltb}
+use lib.Dec.{eqb}
 use lib.ListN.{length}
 use Rattle.image.specs.Pick.{pick}
-use Rattle.image.specs.Admit.{refusal}
 use Rattle.rules.specs.Tree.{Tree}
 use Rattle.rules.specs.Vocabulary.{Rec}
-use Rattle.rules.specs.Resolve.{resolve}
-use Rattle.rules.specs.Access.{access}
-use Rattle.rules.specs.Linear.{linear}
 use Rattle.rules.specs.Answers as rules
-use Rattle.typeck.specs.declared.Pass.{Pass}
-use Rattle.typeck.specs.declared.Pass.the-variants as pass
-use Rattle.typeck.specs.declared.Verdict.{Verdict}
-use Rattle.typeck.specs.declared.Verdict.the-variants as verdict
+unfoldable pub use Rattle.rules.specs.Answers.{partAnswer, partWords}
+pub use Rattle.passes.specs.Verdicts.{Stands, answerOf, verdictOf, Judged}
 use Rattle.typeck.specs.declared.Reply.{Reply}
 use Rattle.typeck.specs.declared.Reply.the-variants as reply
 use Rattle.typeck.specs.declared.Listed.{Listed}
 use Rattle.typeck.specs.declared.Listed.the-variants as listed
-
--- the answer a has the numbers n, and is the case that they name
-pub record Stands {A N : Type 0} (numbersOf : A → N) (caseOf : N → A) (n : N) (a : A) : Type 0 where
-  pub numbers : numbersOf a ≡ n
-  pub case : a ≡ caseOf n
-
--- A pass
-
-abbrev pub answerOf : Verdict → rules.Answer
-answerOf (verdict.Image r) = rules.imageRefused r
-answerOf verdict.Accepted = rules.accepted
-answerOf (verdict.Refused c p f t) = record { number = c; place = p; from = f; to = t }
-
--- 0 acceptance, 1 to 8 the image's refusal, else a code
-abbrev pub verdictOf : rules.Answer → Verdict
-verdictOf a =
-    pick (eqb (a .number) 0) verdict.Accepted
-    (pick (ltb (a .number) 9) (verdict.Image (a .number)) (verdict.Refused (a .number) (a .place) (a .from) (a .to)))
-
-abbrev pub Judged : (Tree → List Rec) → List ℕ → Verdict → Type 0
-Judged pass s v = Stands answerOf verdictOf (rules.passAnswer pass s) v
 
 -- A question about a name
 
@@ -78,24 +51,6 @@ listedOf a = pick (eqb (a .number) 0) (listed.Records (a .records)) (listed.Refu
 abbrev pub ListedAll : List ℕ → List ℕ → Listed → List ℕ → Type 0
 ListedAll s words r words′ = Stands listingOf listedOf (rules.listAnswer s (length words)) r × (words′ ≡ rules.listBuffer s words)
 
--- a pass's part of it: all its records are counted, those that fit are written from the buffer's start
-unfoldable pub partAnswer : (Tree → List Rec) → List ℕ → rules.ListReply
-partAnswer pass s = pick (eqb (refusal s) 0) (rules.listHas (rules.partCount pass s)) (rules.listRefused (refusal s))
-
-unfoldable pub partWords : (Tree → List Rec) → List ℕ → List ℕ → List ℕ
-partWords pass s words = pick (eqb (refusal s) 0) (rules.partBuffer pass s words) words
-
+-- a pass's part of it
 abbrev pub ListedPart : (Tree → List Rec) → List ℕ → List ℕ → Listed → List ℕ → Type 0
 ListedPart pass s words r words′ = Stands listingOf listedOf (partAnswer pass s) r × (words′ ≡ partWords pass s words)
-
--- Within the crate: the records of each pass, and the case that a list of records gives, by its first
-
-abbrev pub recordsOf : Pass → Tree → List Rec
-recordsOf pass.Resolve = resolve
-recordsOf pass.Access = access
-recordsOf pass.Linear = linear
-
-abbrev pub verdictBy : List ℕ → List Rec → Verdict
-verdictBy s l =
-    rules.byFirst verdict.Accepted
-    (λ (r : Rec). verdict.Refused (r .code) (r .place) (rules.spanFrom s (r .place)) (rules.spanTo s (r .place))) l

@@ -93,7 +93,12 @@ fn bad_name(rng: &mut Rng, parts: &mut Parts) {
     match rng.below(4) {
         0 => name.clear(),
         1 => name.resize(rng.between(120, 140), b'a'),
-        2 => name[0] = rng.bits() as u8,
+        2 => {
+            // an earlier damage may have left it empty
+            if let Some(first) = name.first_mut() {
+                *first = rng.bits() as u8;
+            }
+        }
         _ => name.push(*rng.pick(b"\0-.@[`{/:~\x7f\x80\xff")),
     }
 }
@@ -206,4 +211,17 @@ fn set_byte(rng: &mut Rng, image: &mut [u8], from: usize, to: usize) {
         3 => *rng.pick(&[0, 1, 255]),
         _ => rng.bits() as u8,
     };
+}
+
+#[cfg(test)]
+mod tests {
+    use super::*;
+
+    #[test]
+    fn a_name_without_bytes_is_damaged_too() {
+        for index in 0..40 {
+            let mut parts = Parts { names: vec![Vec::new()], nodes: Vec::new() };
+            bad_name(&mut Rng::of_image(1, index), &mut parts);
+        }
+    }
 }

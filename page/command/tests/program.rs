@@ -1,8 +1,6 @@
 //! The program itself, run as people and scripts run it: statuses, outputs, odd inputs.
 
-mod common;
-
-use common::{ACCEPTED, FAULTY as WARD, NO_IMAGE, OFFENCES, Ran, TROUBLE, program, ran};
+use crate::common::{ACCEPTED, FAULTY as WARD, NO_IMAGE, OFFENCES, Ran, TROUBLE, program, ran};
 use std::ffi::OsStr;
 use std::fs::{self, File};
 use std::io::Write;

@@ -1,9 +1,7 @@
 //! Reports of the program that could mislead: another text, no text, several images, an output that is
 //! closed, full or taken.
 
-mod common;
-
-use common::{ACCEPTED, FAULTY, NO_IMAGE, OFFENCES, Ran, TROUBLE, program, ran};
+use crate::common::{ACCEPTED, FAULTY, NO_IMAGE, OFFENCES, Ran, TROUBLE, program, ran};
 use std::fs::{self, File};
 use std::path::{Path, PathBuf};
 use std::process::{Command, Stdio};

@@ -2,11 +2,9 @@
 //! report advises is followed by a program, and the library is asked whether the fault is gone and no new
 //! one has come.
 
-mod common;
-
-use common::contracts::{TEMPLATES, contract};
-use common::follow::followed;
-use common::random;
+use crate::common::contracts::{TEMPLATES, contract};
+use crate::common::follow::followed;
+use crate::common::random;
 use isonkaypu::check_image;
 use show::{Edit, Fault, Way, faults};
 use std::collections::{BTreeMap, BTreeSet};

@@ -2,11 +2,9 @@
 //! source that fits the image's names is shown, whatever else it has; others are not. Generated images, and
 //! the numbers of document 01's plain reading, are held in `oracle/page`.
 
-mod common;
-
-use common::any::{is_matched, with_any_source};
-use common::chance::Chance;
-use common::fitted;
+use crate::common::any::{is_matched, with_any_source};
+use crate::common::chance::Chance;
+use crate::common::fitted;
 
 #[test]
 fn the_examples_with_any_source() {

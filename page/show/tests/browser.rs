@@ -1,9 +1,7 @@
 //! The page in a real browser: it shows its banner and its cards, runs nothing, and the console stays
 //! silent. Skipped, with a word, where chromium is not installed.
 
-mod common;
-
-use common::pages::{Page, pages};
+use crate::common::pages::{Page, pages};
 use std::path::{Path, PathBuf};
 use std::process::{Command, Output};
 

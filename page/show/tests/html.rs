@@ -1,12 +1,11 @@
 //! The HTML form: whole, bound together by its links, and nothing breaks out of it.
 
-mod common;
-
-use common::chance::Chance;
-use common::pages::{hostile, pages};
-use common::tags::{Tag, tags};
-use common::{crossing, fitted, images, mended, respanned, respanned_but_names};
-use common::{shown, shown_source, shown_ward};
+use crate::common;
+use crate::common::chance::Chance;
+use crate::common::pages::{hostile, pages};
+use crate::common::tags::{Tag, tags};
+use crate::common::{crossing, fitted, images, mended, respanned, respanned_but_names};
+use crate::common::{shown, shown_source, shown_ward};
 use std::collections::HashSet;
 
 /// The elements and attributes that the page is made of; nothing else may ever stand in it.

@@ -1,10 +1,9 @@
 //! The JSON form: strict, whole, and the same at any source.
 
-mod common;
-
-use common::chance::Chance;
-use common::json::Json;
-use common::{fitted, images, respanned, sample, shown, shown_source, shown_ward};
+use crate::common;
+use crate::common::chance::Chance;
+use crate::common::json::Json;
+use crate::common::{fitted, images, respanned, sample, shown, shown_source, shown_ward};
 use isonkaypu::Limit;
 
 const KEYS: &[&str] = &[

@@ -1,9 +1,8 @@
 //! Every form but the numbers says which proved library decided: programs get the whole sum, people its
 //! first digits.
 
-mod common;
-
-use common::{sample, shown, shown_source, shown_ward};
+use crate::common;
+use crate::common::{sample, shown, shown_source, shown_ward};
 use show::Subject;
 
 /// A form on a refused contract, on an accepted one, and on what is no image.

@@ -1,7 +1,6 @@
 //! The numbers of a contract that has no image.
 
-mod common;
-
+use crate::common;
 use isonkaypu::Limit;
 use show::numbers;
 

@@ -1,11 +1,9 @@
 //! A text that is not the one that the image was made from: no form shows it, every form says so, and
 //! none of them accepts.
 
-mod common;
-
-use common::json::Json;
-use common::pages::{other_text, other_text_accepted, too_long};
-use common::{images, mended, respanned, sample, shown, shown_with, ward};
+use crate::common::json::Json;
+use crate::common::pages::{other_text, other_text_accepted, too_long};
+use crate::common::{images, mended, respanned, sample, shown, shown_with, ward};
 use form::{Tree, kind};
 use show::{Difference, Subject, Text};
 

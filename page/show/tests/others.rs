@@ -1,9 +1,7 @@
 //! The other places of a fault: document 01's related place, and those that the tree has beside it.
 
-mod common;
-
-use common::json::Json;
-use common::{shown, shown_source};
+use crate::common::json::Json;
+use crate::common::{shown, shown_source};
 use isonkaypu::check_image;
 use show::{Fault, Mark, faults};
 

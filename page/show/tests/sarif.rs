@@ -1,12 +1,11 @@
 //! The SARIF form against what the standard (OASIS SARIF 2.1.0) requires: which properties an object
 //! must have, which it may have, of which types, and which words an enumeration knows.
 
-mod common;
-
-use common::chance::Chance;
-use common::json::Json;
-use common::pages::hostile;
-use common::{crossing, fitted, images, mended, respanned, sample, shown, shown_source, shown_ward};
+use crate::common;
+use crate::common::chance::Chance;
+use crate::common::json::Json;
+use crate::common::pages::hostile;
+use crate::common::{crossing, fitted, images, mended, respanned, sample, shown, shown_source, shown_ward};
 
 /// The type of a property.
 #[derive(Clone, Copy)]

@@ -1,7 +1,6 @@
 //! The text for people, on contracts with a source: what stands where.
 
-mod common;
-
+use crate::common;
 use isonkaypu::Limit;
 use show::text;
 

@@ -83,6 +83,9 @@ fn events() {
     assert_eq!(codes("event E(); entry e() { emit E(1); } event E(a: u64);"), [21]);
     assert_eq!(codes("event E(); entry e() { emit E(); } event E(a: u64);"), [21, 31]);
     assert_eq!(codes("genesis { emit E(); }"), [30]);
+    // a mend can make a new fault: the event is declared now, with another number of values
+    assert_eq!(codes("genesis { emit E(1); }"), [30]);
+    assert_eq!(codes("event E(); genesis { emit E(1); }"), [31]);
 }
 
 #[test]

@@ -2,7 +2,7 @@
 use borrow.Author.Needs.{needs}
 use mathlib.Core.Path.{_∙_, sym, ap}
 use lib.Seq.{sets}
-use Rattle.typeck.specs.declared.Verdict.{Verdict}
+use Rattle.passes.specs.declared.Verdict.{Verdict}
 use Rattle.typeck.specs.Face.{answerOf}
 use Rattle.isonkaypu.specs.Plain.{row}
 use Rattle.isonkaypu.proofs.note.Statement.{statement}

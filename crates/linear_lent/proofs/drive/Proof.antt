@@ -49,7 +49,7 @@ use denote.Triple.Table.{entered, cited}
 use denote.Triple.Walked.{says, needs, Stays, stay-none-slice, stay-slice, walkOf, goes-none-slice, goes-slice, Walks, ends-at, walked, walk-meets}
 use denote.Exit.{yes}
 use Rattle.linear_table.specs.declared.Row.{Row}
-use Rattle.linear_table.specs.Table.{noRow, rowAt}
+use Rattle.linear_table.specs.Table.{blankRow, nthRow}
 use Rattle.linear_table.proofs.Row as T
 use Rattle.linear_table.proofs.Row.Laws as T′
 use Rattle.linear_lent.specs.declared.State.{State}
@@ -207,14 +207,14 @@ module _ {M : Type 1} (𝓤 : URA M) (H : Heap 𝓤) (A : Atoms 𝓤) (W : Given
         assigns ! (bin ! (load ! (from ! (stop !)) (look ! 2 refl)) (lit ! tt) (record { fits = byte-fits })) (from ! (stop !)) (init ! 5 refl (tt, record { fits = byte-fits })) $
         assigns ! (bin ! (load ! (from ! (fld ! refl (stop !))) (look-in ! 10 (sub ! 0 refl (whole !)))) (load ! (from ! (stop !)) (look ! 5 refl)) tt) (from ! (stop !)) (init ! 6 refl (tt, tt)) $
         rewrite ! 6 (λ (p : ℕ). ‵ (fat fullShare tyPtr l₈ 0 (vptr b p))) (sym (place-is 8 o (c .at))) refl $
-        elem-out ! T.the-row (Is T.the-row) (shows 𝓤 H A T.the-row) (LL.vals T.the-type T′.the-laws) (LL.tells T.the-type T′.the-laws) fullShare zs (c .at) noRow b o within (λ g.
+        elem-out ! T.the-row (Is T.the-row) (shows 𝓤 H A T.the-row) (LL.vals T.the-type T′.the-laws) (LL.tells T.the-type T′.the-laws) fullShare zs (c .at) blankRow b o within (λ g.
         -- [rows[i]; what it owns; the others; _3 to _10; _1; _2; _0; cells' token; cells'; …]: the row is read
-        assigns ! (of-opd ! (load ! (from ! (hop ! (look ! 8 refl) (stop !))) (look-raw ! 0 refl))) (from ! (stop !)) (init ! 9 refl (row-typed (rowAt zs (c .at)) g)) $
+        assigns ! (of-opd ! (load ! (from ! (hop ! (look ! 8 refl) (stop !))) (look-raw ! 0 refl))) (from ! (stop !)) (init ! 9 refl (row-typed (nthRow zs (c .at)) g)) $
         move ! (15 ∷ []) $ use1 W (‵ Shr ⊛ ‵ Shr) (shr-slice-copy 𝓤 H A W (named 0) κ u16 .twice cells (s₀ ∷ [])) $ split ! $
-        move ! (16 ∷ 0 ∷ []) $ use2 W (raw (Step 𝓤 H A mem run .pre (to-step c (rowAt zs (c .at))))) (goes c (rowAt zs (c .at)) is-c g (less, k .1 .0, asked .0)) $
-        calls-at ! (fmOf 𝓤 H (W .laws) 𝓣) (Step 𝓤 H A mem run) known (to-step c (rowAt zs (c .at))) (and-then ! (load ! (from ! (stop !)) (look ! 13 refl)) (and-then ! (load ! (from ! (stop !)) (look ! 5 refl)) (and-then ! (load ! (from ! (stop !)) (look ! 11 refl)) (no-more !)))) (λ w.
-        use1 W (later (some (λ (t : Turn). ((‵ (flft κ q) ⊛ ‵ ftrue) ⊛ ‵ (U.the-row .own t (w ∷ []))) ⊛ raw (ensured 𝓤 H A advance.ended (advance.clauses 𝓤 H A mem run) (κ, tt) (cells, (c, (rowAt zs (c .at), tt))) tt t)))) (id⊢ 𝓤 _) $ await ! tt $ pick ! (λ t.
-        split ! $ move ! (1 ∷ []) $ use1 W (raw (fact 𝓤 (t ≡ stepOf (cells .now) c (rowAt zs (c .at))))) (said c (rowAt zs (c .at)) t) $ heard ! (t ≡ stepOf (cells .now) c (rowAt zs (c .at))) (λ e. split ! $ move ! (1 ∷ []) $
+        move ! (16 ∷ 0 ∷ []) $ use2 W (raw (Step 𝓤 H A mem run .pre (to-step c (nthRow zs (c .at))))) (goes c (nthRow zs (c .at)) is-c g (less, k .1 .0, asked .0)) $
+        calls-at ! (fmOf 𝓤 H (W .laws) 𝓣) (Step 𝓤 H A mem run) known (to-step c (nthRow zs (c .at))) (and-then ! (load ! (from ! (stop !)) (look ! 13 refl)) (and-then ! (load ! (from ! (stop !)) (look ! 5 refl)) (and-then ! (load ! (from ! (stop !)) (look ! 11 refl)) (no-more !)))) (λ w.
+        use1 W (later (some (λ (t : Turn). ((‵ (flft κ q) ⊛ ‵ ftrue) ⊛ ‵ (U.the-row .own t (w ∷ []))) ⊛ raw (ensured 𝓤 H A advance.ended (advance.clauses 𝓤 H A mem run) (κ, tt) (cells, (c, (nthRow zs (c .at), tt))) tt t)))) (id⊢ 𝓤 _) $ await ! tt $ pick ! (λ t.
+        split ! $ move ! (1 ∷ []) $ use1 W (raw (fact 𝓤 (t ≡ stepOf (cells .now) c (nthRow zs (c .at))))) (said c (nthRow zs (c .at)) t) $ heard ! (t ≡ stepOf (cells .now) c (nthRow zs (c .at))) (λ e. split ! $ move ! (1 ∷ []) $
         peeks ! U.the-row (Is U.the-row) (shows 𝓤 H A U.the-row) t (w ∷ []) (λ is. drop ! $
         land ! (from ! (stop !)) (init ! 7 refl (LL.lawful U.the-type U′.the-laws 𝓤 H A W .typed t (w ∷ []) is .0)) $ rewrite ! 7 (λ (u : Val). ‵ (fat fullShare U′.mir l₅ 0 u)) (ap only (LL.tells U.the-type U′.the-laws t (w ∷ []) is)) refl $
         split ! $ move ! (1 ∷ []) $ drop ! $ move ! (2 ∷ 3 ∷ 4 ∷ []) $

@@ -47,10 +47,10 @@ use denote.Triple.Table.{entered, cited}
 use denote.Triple.Walked.{says, needs, Stays, stay-none-slice, gave-slice, walkOf, goes-none-slice, goes-gave-slice, Walks, ends-at, walked, walk-meets}
 use denote.Exit.{yes}
 use Rattle.image.specs.Admit.{refusal}
-use Rattle.typeck.specs.declared.Verdict.{Verdict}
+use Rattle.passes.specs.declared.Verdict.{Verdict}
 use Rattle.typeck.specs.Face.{verdictOf}
-use Rattle.typeck.proofs.Verdict as E
-use Rattle.typeck.proofs.Verdict.Laws as E′
+use Rattle.passes.proofs.Verdict as E
+use Rattle.passes.proofs.Verdict.Laws as E′
 use Rattle.linear_table.specs.declared.Row.{Row}
 use Rattle.linear_table.specs.Table.{TableOf}
 use Rattle.linear_table.proofs.Row as T

@@ -47,10 +47,10 @@ use denote.Triple.Table.{entered, cited}
 use denote.Triple.Walked.{says, Stays, stay-none-slice, walkOf, goes-none-slice, Walks, ends-at, walked, walk-meets}
 use denote.Exit.{yes}
 use Rattle.rules.specs.Linear.{linear as pass}
-use Rattle.typeck.specs.declared.Verdict.{Verdict}
+use Rattle.passes.specs.declared.Verdict.{Verdict}
 use Rattle.typeck.specs.Face.{Judged}
-use Rattle.typeck.proofs.Verdict as E
-use Rattle.typeck.proofs.Verdict.Laws as E′
+use Rattle.passes.proofs.Verdict as E
+use Rattle.passes.proofs.Verdict.Laws as E′
 use Rattle.linear_table.specs.declared.Row.{Row}
 use Rattle.linear_table.proofs.Row as T
 use Rattle.linear_table.proofs.Row.Laws as T′

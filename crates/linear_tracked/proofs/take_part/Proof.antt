@@ -8,10 +8,11 @@ use Rattle.rules.specs.Linear.{isRow}
 use Rattle.records.proofs.Laws.{added-nothing, added-by, added-long}
 use Rattle.nodes.specs.Shown.{treeOf}
 use Rattle.nodes.proofs.Parts.{past}
-use Rattle.linear_tracked.specs.Rows.{PartAt, saysRow, says60}
-use Rattle.linear_tracked.proofs.Row.{row-long, row-few, row-named}
+use Rattle.linear_parts.specs.Parts.{PartAt, saysRow, says60}
+use Rattle.linear_parts.proofs.Row.{row-long, row-few, row-named}
 use Rattle.linear_tracked.proofs.Filled.{rows-still, rows-push}
-use Rattle.linear_tracked.proofs.Walk.{part-in, at60-none, at60-one}
+use Rattle.linear_parts.proofs.Parts.{part-in}
+use Rattle.linear_tracked.proofs.Walk.{at60-none, at60-one}
 use Rattle.linear_tracked.proofs.take_part.Statement.{statement}
 use Rattle.linear_tracked.proofs.take_part.Tie as tie
 

@@ -11,7 +11,8 @@ use Rattle.nodes.specs.Shown.{View, treeOf}
 use Rattle.nodes.proofs.Spans.{Span, span-below, child-on}
 use Rattle.nodes.proofs.Shapes.{allIn, skips-parts, within}
 use Rattle.nodes.proofs.Cursors.{Over, before-last, past-last, stands, still-over, on-to}
-use Rattle.linear_tracked.specs.Rows.{rowsBefore, Rows, Unrowed, at60}
+use Rattle.linear_parts.specs.Parts.{rowsBefore}
+use Rattle.linear_tracked.specs.Rows.{Rows, Unrowed, at60}
 use Rattle.linear_tracked.proofs.Walk.{walk-starts, walk-on, walk-done, part-at}
 use Rattle.linear_tracked.proofs.track.Statement.{statement}
 use Rattle.linear_tracked.proofs.track.Tie as tie

@@ -10,7 +10,8 @@ use Rattle.nodes.proofs.Names.{marks-as}
 use Rattle.nodes.proofs.Folding.{Folding, folding-starts, folding-again, folding-done}
 use Rattle.places.specs.declared.Note.the-variants.{Off}
 use Rattle.places.specs.Places.{noting}
-use Rattle.linear_tracked.specs.Rows.{Placed, rowsOf}
+use Rattle.linear_tracked.specs.Rows.{Placed}
+use Rattle.linear_parts.specs.Parts.{rowsOf}
 use Rattle.linear_tracked.proofs.Place.{row-placed}
 use Rattle.linear_tracked.proofs.Off.{rows-off}
 use Rattle.linear_tracked.proofs.untrack.Statement.{statement}

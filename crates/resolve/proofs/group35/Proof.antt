@@ -22,8 +22,8 @@ use Rattle.resolve.proofs.group35.Tie as tie
 abbrev Inv-loop : tie.InvT-loop
 Inv-loop nodes address state declared known fields params₀ builtin method out₀ count end total₀ children₀ params out total children =
     Over 0 end children
-    × Walk (λ (T : ResolveTables nodes address state declared known fields params₀ builtin method). T .called .view) entry (λ T. entryRules (treeOf (T .called .view))) 1 end (2 ^ 23) out₀ count out total (children .at)
-    × ((T : ResolveTables nodes address state declared known fields params₀ builtin method) → Marks (T .called .view .image) (λ w. false) params)
+    × Walk (λ (T : ResolveTables nodes address state declared known fields params₀ builtin method). T .ofEntry .view) entry (λ T. entryRules (treeOf (T .ofEntry .view))) 1 end (2 ^ 23) out₀ count out total (children .at)
+    × ((T : ResolveTables nodes address state declared known fields params₀ builtin method) → Marks (T .ofEntry .view .image) (λ w. false) params)
 
 abbrev μ-loop : tie.MeasureT-loop
 μ-loop nodes address state declared known fields params₀ builtin method out₀ count end total₀ children₀ params out total children = end - children .at
@@ -41,7 +41,7 @@ loop-again c =
     let i = d .before .before .loop .inv in (
       still-over (i .0) (c .before .step .ensures),
       items-on refl (d .before .before .before .before .before .before .pre .0) (d .before .before .before .before .before .before .pre .1) (d .before .before .before .end .ensures) (i .1) (before-last (i .0) (d .if1 .taken)) (on-to (i .0) (c .before .step .ensures)) (added-by (λ T. cleaned T (i .2 T)) (λ T. refl) (c .before .before .before .before .entry .ensures .0)),
-      λ T. c .before .before .before .before .entry .ensures .1 (cleaned T (i .2 T) .called),
+      λ T. c .before .before .before .before .entry .ensures .1 (cleaned T (i .2 T) .ofEntry),
     )
 
 returns : tie.Need-returns Inv-loop μ-loop
@@ -49,4 +49,4 @@ unfolding group35
 returns c = let i = c .before .before .loop .inv in below-done 0 (i .1) (past-last (i .0) (c .if1 .left)) (c .before .before .before .end .ensures)
 
 pub group35-spec : {M : Type 1} → statement M
-group35-spec = tie.close (tie.spec Inv-loop μ-loop (λ c κs. search needs) (λ c. (record { part = refl; last = refl }, below-starts 0 (c .before .before .before .pre .0) (c .before .before .before .pre .1) (c .end .ensures), λ T. T .called .clean)) entry-requires (λ c κs. search needs) loop-less loop-again (λ c. sweep-long (c .before .before .loop .inv .1 .sweep) (c .before .before .before .before .before .before .pre .0)) returns)
+group35-spec = tie.close (tie.spec Inv-loop μ-loop (λ c κs. search needs) (λ c. (record { part = refl; last = refl }, below-starts 0 (c .before .before .before .pre .0) (c .before .before .before .pre .1) (c .end .ensures), λ T. T .ofEntry .clean)) entry-requires (λ c κs. search needs) loop-less loop-again (λ c. sweep-long (c .before .before .loop .inv .1 .sweep) (c .before .before .before .before .before .before .pre .0)) returns)

@@ -11,14 +11,15 @@ use Rattle.records.proofs.Sweep.{sweep-long}
 use Rattle.nodes.specs.Shown.{treeOf}
 use Rattle.nodes.proofs.Steps.{Walk, items-on, below-starts, below-moves, below-done}
 use Rattle.nodes.proofs.Cursors.{Over, before-last, past-last, still-over, on-to}
-use Rattle.resolve_events.specs.Emitted.{Events, emitRules}
+use Rattle.resolve_events.specs.Events.{Events}
+use Rattle.resolve_emits.specs.Emitted.{emitRules}
 use Rattle.resolve_events.proofs.Lent.{is-item}
 use Rattle.resolve_events.proofs.emits.Statement.{statement}
 use Rattle.resolve_events.proofs.emits.Tie as tie
 
 abbrev Inv-loop : tie.InvT-loop
 Inv-loop kind nodes last out₀ count end total₀ children₀ out total children =
-    Over 0 end children × Walk (λ (T : Events nodes last). T .noted .view) (kind ∷ []) (λ T i. let t = treeOf (T .noted .view) in below t emit i (emitRules t)) 1 end 4096 out₀ count out total (children .at)
+    Over 0 end children × Walk (λ (T : Events nodes last). T .emitting .view) (kind ∷ []) (λ T i. let t = treeOf (T .emitting .view) in below t emit i (emitRules t)) 1 end 4096 out₀ count out total (children .at)
 
 abbrev μ-loop : tie.MeasureT-loop
 μ-loop kind nodes last out₀ count end total₀ children₀ out total children = end - children .at

@@ -13,7 +13,7 @@ use Rattle.resolve_events.proofs.genesis_emits.Tie as tie
 
 returns : tie.Need-returns
 unfolding emits below
-returns c = added-nothing (λ T. run-empty _ _ _ (λ i l h. keep-none _ i (c .before .before .before .pre .2 (not-true _ (c .if1 .taken)) (T .noted .view) i (omega arith) (omega arith))))
+returns c = added-nothing (λ T. run-empty _ _ _ (λ i l h. keep-none _ i (c .before .before .before .pre .2 (not-true _ (c .if1 .taken)) (T .emitting .view) i (omega arith) (omega arith))))
 
 emits-requires : tie.Need-emits-requires
 unfolding has

@@ -9,23 +9,23 @@ use Rattle.resolve_events.proofs.item.Statement.{statement}
 use Rattle.resolve_events.proofs.item.Tie as tie
 
 returns : tie.Need-returns
-returns c = added-nothing (λ T. keep-none _ _ (has-not _ _ (λ e. c .if1 .taken (c .before .kind .ensures (T .noted .view) ∙ e))))
+returns c = added-nothing (λ T. keep-none _ _ (has-not _ _ (λ e. c .if1 .taken (c .before .kind .ensures (T .emitting .view) ∙ e))))
 
 is-one : (c : tie.Else1) (W : View (c .before .before .before .before .args .nodes .now) 0) → treeOf W .kind (c .before .before .before .before .args .item) ≡ c .before .before .before .before .args .kind
 is-one c W = sym (c .before .kind .ensures W) ∙ c .if1 .left
 
 statements-requires-2 : tie.Need-statements-requires-2
-statements-requires-2 c κs = let P = c .before .before .before .before .before .before .before .pre in let W = P .0 .noted .view in (lent (P .0) (P .2) (P .3) (is-one ((c .before .before .before)) W) (P .1) (c .before .before .first-statement .ensures W) (c .before .statements .ensures W), P .4)
+statements-requires-2 c κs = let P = c .before .before .before .before .before .before .before .pre in let W = P .0 .emitting .view in (lent (P .0) (P .2) (P .3) (is-one ((c .before .before .before)) W) (P .1) (c .before .before .first-statement .ensures W) (c .before .statements .ensures W), P .4)
 
 returns-2 : tie.Need-returns-2
 returns-2 c =
     let P = c .before .before .before .before .before .before .before .before .before .before .pre in
-    added-by (λ T. let W = T .noted .view in lent T (P .2) (P .3) (is-one ((c .before .before .before .before .before .before)) W) (P .1) (c .before .before .before .before .before .first-statement .ensures W) (c .before .before .before .before .statements .ensures W))
-    (λ T. let W = T .noted .view in item-emits W (c .before .before .before .before .before .first-statement .ensures W) ∙ sym (keep-one _ _ (has-one _ _ (is-one ((c .before .before .before .before .before .before)) W))))
+    added-by (λ T. let W = T .emitting .view in lent T (P .2) (P .3) (is-one ((c .before .before .before .before .before .before)) W) (P .1) (c .before .before .before .before .before .first-statement .ensures W) (c .before .before .before .before .statements .ensures W))
+    (λ T. let W = T .emitting .view in item-emits W (c .before .before .before .before .before .first-statement .ensures W) ∙ sym (keep-one _ _ (has-one _ _ (is-one ((c .before .before .before .before .before .before)) W))))
     (c .before .before .statements2 .ensures)
 
 pub item-spec : {M : Type 1} → statement M
 item-spec =
     tie.close
-    (tie.spec (λ c κs. search needs) returns (λ c κs. let P = c .before .before .before .before .pre in (P .0 .noted .view, P .2, P .3))
-    (λ c κs. let P = c .before .before .before .before .before .pre in let W = P .0 .noted .view in record { view = W; here = P .2; first = c .first-statement .ensures W }) statements-requires-2 (λ c. search needs) returns-2)
+    (tie.spec (λ c κs. search needs) returns (λ c κs. let P = c .before .before .before .before .pre in (P .0 .emitting .view, P .2, P .3))
+    (λ c κs. let P = c .before .before .before .before .before .pre in let W = P .0 .emitting .view in record { view = W; here = P .2; first = c .first-statement .ensures W }) statements-requires-2 (λ c. search needs) returns-2)

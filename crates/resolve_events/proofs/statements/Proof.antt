@@ -11,7 +11,7 @@ use Rattle.nodes.proofs.Shapes.{allIn}
 use Rattle.nodes.proofs.Spans.{span-whole, upto-is}
 use Rattle.nodes.proofs.Steps.{Stepping, steps-start, step-at, steps-on, steps-done}
 use Rattle.nodes.proofs.Cursors.{Over, before-last, past-last, stands, still-over, on-to}
-use Rattle.resolve_events.specs.Emitted.{Emitted, emitRules}
+use Rattle.resolve_emits.specs.Emitted.{Emitted, emitRules}
 use Rattle.resolve_events.proofs.statements.Statement.{statement}
 use Rattle.resolve_events.proofs.statements.Tie as tie
 

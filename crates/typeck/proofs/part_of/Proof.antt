@@ -1,7 +1,7 @@
 -- `part_of` meets its contract: admission, then the pass's list.
 use borrow.Author.Needs.{needs}
 use mathlib.Core.Path.{sym, _∙_}
-use Rattle.typeck.specs.Face.{recordsOf}
+use Rattle.passes.specs.Verdicts.{recordsOf}
 use Rattle.nodes.proofs.Admission.{admitted-by}
 use Rattle.typeck.proofs.Laws.{part-refused, part-listed}
 use Rattle.typeck.proofs.part_of.Statement.{statement}

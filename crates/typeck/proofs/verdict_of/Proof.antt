@@ -2,7 +2,7 @@
 use borrow.Author.Needs.{needs}
 use mathlib.Core.Path.{sym, _∙_}
 use Rattle.nodes.proofs.Admission.{admitted-by}
-use Rattle.typeck.proofs.Laws.{judged-refused}
+use Rattle.passes.proofs.Laws.{judged-refused}
 use Rattle.typeck.proofs.verdict_of.Statement.{statement}
 use Rattle.typeck.proofs.verdict_of.Tie as tie
 

@@ -5,7 +5,7 @@ use Rattle.rules.specs.Resolve.{resolve}
 use Rattle.rules.specs.Access.{access}
 use Rattle.rules.specs.Linear.{linear}
 use Rattle.nodes.proofs.Admission.{admitted-by}
-use Rattle.typeck.proofs.Laws.{judged-refused}
+use Rattle.passes.proofs.Laws.{judged-refused}
 use Rattle.typeck.proofs.verdicts.Statement.{statement}
 use Rattle.typeck.proofs.verdicts.Tie as tie
 

@@ -1,7 +1,5 @@
 //! The program as the tests run it, and what it came to.
 
-#![allow(dead_code)] // each test program takes its own part
-
 use std::process::{Command, Output};
 
 pub const ACCEPTED: i32 = 0;

@@ -1,6 +1,6 @@
 //! What the tests of all forms show: the ward's contract, and images and sources of all sorts.
 
-#![allow(dead_code)] // each test program takes its own part
+#![allow(dead_code)] // a program that takes these in may take a part
 
 use chance::Chance;
 use form::image::{HEADER, NODE};

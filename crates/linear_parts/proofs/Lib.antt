@@ -1,0 +1,6 @@
+pub mod Parts
+pub mod Questions
+pub mod Lists
+pub mod Noted
+pub mod Row
+pub mod Alias

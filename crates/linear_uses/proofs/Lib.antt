@@ -1,0 +1,4 @@
+pub mod Burns
+pub mod Burnt
+pub mod Tally
+pub mod Uses

@@ -1,0 +1,4 @@
+pub mod Counting
+pub mod Params
+pub mod Laws
+pub mod Lent

@@ -1,0 +1,41 @@
+-- `item22` meets its contract: the statements of an Entry or a Genesis, lent as their own part.
+use borrow.Author.Needs.{needs}
+use mathlib.Core.Path.{_≡_, _∙_, sym, ap}
+use Prim.Native.Nat.{ℕ}
+use Rattle.rules.specs.Sweep.{has}
+use Rattle.rules.specs.Tree.{bodied}
+use Rattle.rules.specs.Resolve.{rule22}
+use Rattle.records.proofs.Laws.{added-nothing, added-by}
+use Rattle.records.proofs.Sweep.{keep-one, keep-none}
+use Rattle.nodes.specs.Shown.{View, treeOf}
+use Rattle.nodes.proofs.Fall.{not-true, not-false}
+use Rattle.nodes.proofs.Flat.{flat-calls}
+use Rattle.resolve_mints.proofs.Assets.{bodied-is}
+use Rattle.resolve_mints.proofs.Laws.{lent-minting}
+use Rattle.resolve_mints.proofs.item22.Statement.{statement}
+use Rattle.resolve_mints.proofs.item22.Tie as tie
+
+told : (c : tie.After-is-bodied) (W : View (c .before .before .before .before .args .nodes .now) 0) → has (treeOf W .kind (c .before .before .before .before .args .item)) bodied ≡ c .is-bodied .result
+told c W = ap (λ (k : ℕ). has k bodied) (sym (c .before .kind .ensures W)) ∙ sym (c .is-bodied .ensures)
+
+returns : tie.Need-returns
+returns c = added-nothing (λ T. keep-none _ _ (told (c .before) (T .view) ∙ not-true _ (c .if1 .taken)))
+
+statements-requires : tie.Need-statements-requires
+statements-requires c κs = let d = c .before .before .before .before .before .before in let W = d .pre .0 .view in record { view = W; here = d .pre .1; first = c .first-statement .ensures W }
+
+calls22-requires : tie.Need-calls22-requires
+calls22-requires c κs = let d = c .before .before .before .before .before .before .before .before in (lent-minting _ (d .pre .0) (c .before .statements .ensures (d .pre .0 .view)), d .pre .3)
+
+returns-2 : tie.Need-returns-2
+returns-2 c =
+    let d = (c .before .before .before .before .before .before .before .before .before .before .before) in
+    added-by (λ T. lent-minting (d .args .item) T (c .before .before .before .before .statements .ensures (T .view)))
+    (λ T.
+    let W = T .view in
+    let k = told (c .before .before .before .before .before .before .before) W ∙ not-false _ (c .before .before .before .before .before .before .if1 .left) in
+    flat-calls W (d .pre .1) (d .pre .2) (bodied-is _ k) (c .before .before .before .before .before .first-statement .ensures W) (rule22 (treeOf W)) ∙ sym (keep-one _ _ k))
+    (c .before .before .calls22 .ensures)
+
+pub item22-spec : {M : Type 1} → statement M
+item22-spec = tie.close (tie.spec (λ c κs. search needs) (λ c κs. search needs) returns (λ c κs. search needs) statements-requires calls22-requires (λ c. search needs) returns-2)

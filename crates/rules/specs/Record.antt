@@ -1,0 +1,10 @@
+-- List record of document 01: three words, code, place, related.
+use Prim.Native.Nat.{ℕ}
+
+pub record Rec : Type 0 where
+  pub code : ℕ
+  pub place : ℕ
+  pub related : ℕ
+
+abbrev pub rec : ℕ → ℕ → ℕ → Rec
+rec c p q = record { code = c; place = p; related = q }
