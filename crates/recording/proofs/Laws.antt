@@ -27,7 +27,7 @@ numbers-are a p q r t = cc
 abbrev pub Lies : Part → ℕ → ℕ → Type 0
 Lies x at n = (x .at ≡ at) × (x .count ≡ n)
 
-part-is : {x : Part} {at n : ℕ} → Lies x at n → x ≡ partOf at n
+pub part-is : {x : Part} {at n : ℕ} → Lies x at n → x ≡ partOf at n
 part-is {x} {at} {n} (p, q) = ap (λ (k : ℕ). partOf k (x .count)) p ∙ ap (partOf at) q
 
 -- the parts that the two runs make

@@ -3,6 +3,10 @@ use recording::Numbers;
 use typeck::Listed;
 use typeck::Reply;
 use typeck::Verdict;
+ghost use mathlib.Core.Path.{_≡_};
+ghost use lib.ListN.{length};
+ghost use Rattle.records.specs.Words.{old, new};
+ghost use Rattle.replay.specs.Differences.{ofVerdict, ofReply, ofListed, listedFor, wordsFor};
 
 // Which list is asked for.
 pub enum Asked {
@@ -12,7 +16,9 @@ pub enum Asked {
     Linear,
 }
 
-pub fn of_verdict(verdict: Verdict) -> Numbers {
+pub fn of_verdict(verdict: Verdict) -> Numbers
+    ensures { λ r. ⌜ r ≡ ofVerdict verdict ⌝ }
+{
     match verdict {
         Verdict::Image(refusal) => Numbers(refusal, 0, 0, 0, 0),
         Verdict::Accepted => Numbers(0, 0, 0, 0, 0),
@@ -31,7 +37,9 @@ pub fn of_verdict(verdict: Verdict) -> Numbers {
     }
 }
 
-pub fn of_reply(reply: Reply) -> Numbers {
+pub fn of_reply(reply: Reply) -> Numbers
+    ensures { λ r. ⌜ r ≡ ofReply reply ⌝ }
+{
     match reply {
         Reply::Image(refusal) => Numbers(refusal, 0, 0, 0, 0),
         Reply::Yes => Numbers(0, 1, 0, 0, 0),
@@ -39,14 +47,18 @@ pub fn of_reply(reply: Reply) -> Numbers {
     }
 }
 
-pub fn of_listed(listed: Listed) -> Numbers {
+pub fn of_listed(listed: Listed) -> Numbers
+    ensures { λ r. ⌜ r ≡ ofListed listed ⌝ }
+{
     match listed {
         Listed::Refused(refusal) => Numbers(refusal, 0, 0, 0, 0),
         Listed::Records(count) => Numbers(0, count, 0, 0, 0),
     }
 }
 
-pub fn list_of(asked: Asked, image: &[u8], words: &mut [u16]) -> Listed {
+pub fn list_of(asked: Asked, image: &[u8], words: &mut [u16]) -> Listed
+    ensures { λ r. ⌜ (r ≡ listedFor asked (old image) (length (old words))) × (new words ≡ wordsFor asked (old image) (old words)) ⌝ }
+{
     match asked {
         Asked::Whole => typeck::list(image, words),
         Asked::Resolve => typeck::resolve_list(image, words),

@@ -8,13 +8,15 @@ ghost use mathlib.Core.Path.{_≡_};
 ghost use Prim.Native.Nat.{_+_, _*_, _≤_};
 ghost use lib.ListN.{length};
 ghost use Rattle.records.specs.Words.{old, new};
+ghost use Rattle.recording.specs.Told.{Within, listDifferences};
+ghost use Rattle.replay.specs.Differences.{listNumbers, wordsIn, zeros, listDifference, shortDifference, listsDifferences};
 
 // Words for as many records as a file of main's ROOM bytes can hold.
 const WORDS: usize = 225000;
 
 // Zeros for the words of an answer. Whoever takes them knows their number and not each of them, which spares counting.
 fn blank() -> [u16; WORDS]
-    ensures { λ r. ⌜ 225000 ≡ length r ⌝ }
+    ensures { λ r. ⌜ (r ≡ zeros) × (225000 ≡ length r) ⌝ }
 {
     [0; WORDS]
 }
@@ -22,6 +24,7 @@ fn blank() -> [u16; WORDS]
 // The answer, its records in the first `size` words.
 fn answer_in(asked: Asked, image: &[u8], words: &mut [u16], size: usize) -> Numbers
     requires { ⌜ size ≤ length (now words) ⌝ }
+    ensures { λ r. ⌜ (r ≡ listNumbers asked (old image) size) × (new words ≡ wordsIn asked (old image) size (old words)) ⌝ }
     ensures { λ _. ⌜ length (new words) ≡ length (old words) ⌝ }
 {
     ask::of_listed(ask::list_of(asked, image, &mut words[..size]))
@@ -37,8 +40,9 @@ fn list_in(
     image: &[u8],
     words: &mut [u16],
 ) -> usize
-    requires { ⌜ (part .at + 6 * part .count ≤ length (now file)) × (3 * part .count ≤ length (now words)) ⌝ }
-    ensures { λ r. ⌜ r ≤ part .count + 1 ⌝ }
+    requires { ⌜ Within (now file) part × (3 * part .count ≤ length (now words)) ⌝ }
+    ensures { λ r. ⌜ (r ≡ listDifferences (case .refusal) (old file) part (listNumbers asked (old image) (3 * part .count)) (new words)) × (r ≤ part .count + 1) ⌝ }
+    ensures { λ _. ⌜ new words ≡ wordsIn asked (old image) (3 * part .count) (old words) ⌝ }
 {
     let answer = answer_in(asked, image, words, 3 * part.count);
     recording::records_differ(case, name, file, part, answer, words)
@@ -52,8 +56,8 @@ fn list_differs(
     part: Part,
     image: &[u8],
 ) -> usize
-    requires { ⌜ (part .at + 6 * part .count ≤ length (now file)) × (length (now file) ≤ 450000) ⌝ }
-    ensures { λ r. ⌜ r ≤ part .count + 1 ⌝ }
+    requires { ⌜ Within (now file) part × (length (now file) ≤ 450000) ⌝ }
+    ensures { λ r. ⌜ (r ≡ listDifference asked (old file) part (case .refusal) (old image)) × (r ≤ 75001) ⌝ }
 {
     let mut words = blank();
     list_in(case, name, asked, file, part, image, &mut words)
@@ -62,7 +66,7 @@ fn list_differs(
 // Where there is a record, a buffer that is one word short is refused by 9.
 fn short_differs(case: Case, count: usize, image: &[u8]) -> usize
     requires { ⌜ 6 * count ≤ 450000 ⌝ }
-    ensures { λ r. ⌜ r ≤ 1 ⌝ }
+    ensures { λ r. ⌜ (r ≡ shortDifference count (old image)) × (r ≤ 1) ⌝ }
 {
     if count == 0 {
         return 0;
@@ -76,7 +80,7 @@ fn short_differs(case: Case, count: usize, image: &[u8]) -> usize
 // How many of the lists differ from the recorded one.
 pub fn differ(case: Case, file: &[u8], at: usize, count: usize, image: &[u8]) -> usize
     requires { ⌜ (at + 6 * count ≤ length (now file)) × (length (now file) ≤ 450000) ⌝ }
-    ensures { λ r. ⌜ r ≤ 400000 ⌝ }
+    ensures { λ r. ⌜ (r ≡ listsDifferences (old file) at count (case .refusal) (old image)) × (r ≤ 400000) ⌝ }
 {
     let whole = recording::part_of(at, count);
     let parts = recording::parts_of(file, at, count);

@@ -9,6 +9,11 @@ use typeck::Verdict;
 ghost use mathlib.Core.Path.{_≡_};
 ghost use Prim.Native.Nat.{_+_, _<_, _≤_};
 ghost use lib.ListN.{length};
+ghost use Rattle.rules.specs.Linear.{linear};
+ghost use Rattle.records.specs.Words.{old};
+ghost use Rattle.recording.specs.Told.{difference, verdictAt, replyAt};
+ghost use Rattle.replay.specs.Differences.{ofVerdict, ofReply, passDifference, passDifferences, verdictDifferences, questionDifferences};
+ghost use Rattle.replay.specs.Differences.{stepTo, endsEarly, nameStep, namesStep, answersStep, imageStep, imagesStep};
 
 // More than the recorded answers have: input that fills it is too long.
 const ROOM: usize = 450000;
@@ -28,7 +33,7 @@ struct Step {
 }
 
 fn early() -> Step
-    ensures { λ r. ⌜ (r .at ≡ 0) × (r .differ ≡ 0) ⌝ }
+    ensures { λ r. ⌜ (r ≡ endsEarly) × (r .at ≡ 0) × (r .differ ≡ 0) ⌝ }
 {
     Step {
         at: 0,
@@ -38,7 +43,7 @@ fn early() -> Step
 }
 
 fn step_to(at: usize, differ: usize) -> Step
-    ensures { λ r. ⌜ (r .at ≡ at) × (r .differ ≡ differ) ⌝ }
+    ensures { λ r. ⌜ (r ≡ stepTo at differ) × (r .at ≡ at) × (r .differ ≡ differ) ⌝ }
 {
     Step {
         at,
@@ -50,7 +55,7 @@ fn step_to(at: usize, differ: usize) -> Step
 // A verdict of the face against the recorded one.
 fn pass_differs(case: Case, asked: &[u8], file: &[u8], at: usize, verdict: Verdict) -> usize
     requires { ⌜ at + 12 ≤ length (now file) ⌝ }
-    ensures { λ r. ⌜ r ≤ 1 ⌝ }
+    ensures { λ r. ⌜ (r ≡ difference (verdictAt (old file) at (case .refusal)) (ofVerdict verdict)) × (r ≤ 1) ⌝ }
 {
     recording::verdict_differs(case, asked, file, at, ask::of_verdict(verdict))
 }
@@ -58,7 +63,7 @@ fn pass_differs(case: Case, asked: &[u8], file: &[u8], at: usize, verdict: Verdi
 // The refusal, and each pass asked by itself.
 fn passes_differ(case: Case, file: &[u8], at: usize, image: &[u8]) -> usize
     requires { ⌜ at + 36 ≤ length (now file) ⌝ }
-    ensures { λ r. ⌜ r ≤ 4 ⌝ }
+    ensures { λ r. ⌜ (r ≡ passDifferences (old file) at (case .refusal) (old image)) × (r ≤ 4) ⌝ }
 {
     let recorded = Numbers(case.refusal, 0, 0, 0, 0);
     let refused = Numbers(typeck::refused(image), 0, 0, 0, 0);
@@ -72,7 +77,7 @@ fn passes_differ(case: Case, file: &[u8], at: usize, image: &[u8]) -> usize
 // The passes asked at once.
 fn verdicts_differ(case: Case, file: &[u8], at: usize, image: &[u8]) -> usize
     requires { ⌜ at + 36 ≤ length (now file) ⌝ }
-    ensures { λ r. ⌜ r ≤ 3 ⌝ }
+    ensures { λ r. ⌜ (r ≡ verdictDifferences (old file) at (case .refusal) (old image)) × (r ≤ 3) ⌝ }
 {
     let answers = typeck::verdicts(image);
     let resolve = answers.resolve;
@@ -87,7 +92,7 @@ fn verdicts_differ(case: Case, file: &[u8], at: usize, image: &[u8]) -> usize
 // The linear pass in a table of rows that it is lent.
 fn lent_differs(case: Case, file: &[u8], at: usize, image: &[u8]) -> usize
     requires { ⌜ at + 36 ≤ length (now file) ⌝ }
-    ensures { λ r. ⌜ r ≤ 1 ⌝ }
+    ensures { λ r. ⌜ (r ≡ passDifference linear (old file) (at + 24) (case .refusal) (old image)) × (r ≤ 1) ⌝ }
 {
     let verdict = linear_lent::linear_here(image);
     pass_differs(case, b"linear, rows lent", file, at + 24, verdict)
@@ -96,7 +101,7 @@ fn lent_differs(case: Case, file: &[u8], at: usize, image: &[u8]) -> usize
 // An answer of the face about a name against the recorded one.
 fn reply_differs(case: Case, asked: &[u8], file: &[u8], at: usize, reply: Reply) -> usize
     requires { ⌜ at < length (now file) ⌝ }
-    ensures { λ r. ⌜ r ≤ 1 ⌝ }
+    ensures { λ r. ⌜ (r ≡ difference (replyAt (old file) at (case .refusal)) (ofReply reply)) × (r ≤ 1) ⌝ }
 {
     recording::answer_differs(case, asked, file, at, ask::of_reply(reply))
 }
@@ -104,7 +109,7 @@ fn reply_differs(case: Case, asked: &[u8], file: &[u8], at: usize, reply: Reply)
 // The three questions about one name.
 fn questions_differ(case: Case, file: &[u8], at: usize, image: &[u8], name: &[u8]) -> usize
     requires { ⌜ at + 3 ≤ length (now file) ⌝ }
-    ensures { λ r. ⌜ r ≤ 3 ⌝ }
+    ensures { λ r. ⌜ (r ≡ questionDifferences (old file) at (case .refusal) (old image) (old name)) × (r ≤ 3) ⌝ }
 {
     let state = typeck::is_state(image, name);
     let declared = typeck::is_declared_asset(image, name);
@@ -118,6 +123,7 @@ fn questions_differ(case: Case, file: &[u8], at: usize, image: &[u8], name: &[u8
 // One name that is asked about.
 fn name_step(case: Case, file: &[u8], at: usize, image: &[u8]) -> Step
     requires { ⌜ at ≤ length (now file) ⌝ }
+    ensures { λ r. ⌜ r ≡ nameStep (old file) (case .refusal) (old image) at ⌝ }
     ensures { λ r. ⌜ (r .at ≤ length (now (file .entry))) × (r .differ ≤ 3) ⌝ }
 {
     let n = file.len();
@@ -137,6 +143,7 @@ fn name_step(case: Case, file: &[u8], at: usize, image: &[u8]) -> Step
 // The names that are asked about.
 fn names_step(case: Case, file: &[u8], at: usize, count: usize, image: &[u8]) -> Step
     requires { ⌜ (at ≤ length (now file)) × (count < 256) ⌝ }
+    ensures { λ r. ⌜ r ≡ namesStep (old file) (case .refusal) (old image) count at ⌝ }
     ensures { λ r. ⌜ (r .at ≤ length (now (file .entry))) × (r .differ ≤ 768) ⌝ }
 {
     let mut next = at;
@@ -157,6 +164,7 @@ fn names_step(case: Case, file: &[u8], at: usize, count: usize, image: &[u8]) ->
 // The answers on one image, from its refusal on.
 fn answers_step(file: &[u8], at: usize, number: usize, image: &[u8]) -> Step
     requires { ⌜ (at + 41 ≤ length (now file)) × (length (now file) ≤ 450000) ⌝ }
+    ensures { λ r. ⌜ r ≡ answersStep (old file) at (old image) ⌝ }
     ensures { λ r. ⌜ (r .at ≤ length (now (file .entry))) × (r .differ ≤ 500000) ⌝ }
 {
     let refusal = recording::u8_at(file, at);
@@ -172,9 +180,10 @@ fn answers_step(file: &[u8], at: usize, number: usize, image: &[u8]) -> Step
     let c = lists::differ(case, file, list, count, image);
     let d = lent_differs(case, file, at + 1, image);
     let step = names_step(case, file, names + 1, recording::u8_at(file, names), image);
+    let differ = a + b + c + d;
     Step {
         at: step.at,
-        differ: a + b + c + d + step.differ,
+        differ: differ + step.differ,
         whole: step.whole,
     }
 }
@@ -182,6 +191,7 @@ fn answers_step(file: &[u8], at: usize, number: usize, image: &[u8]) -> Step
 // One image and the answers on it.
 fn image_step(file: &[u8], at: usize, number: usize) -> Step
     requires { ⌜ (at ≤ length (now file)) × (length (now file) ≤ 450000) ⌝ }
+    ensures { λ r. ⌜ r ≡ imageStep (old file) at ⌝ }
     ensures { λ r. ⌜ (r .at ≤ length (now (file .entry))) × (r .differ ≤ 500000) ⌝ }
 {
     let n = file.len();
@@ -200,6 +210,7 @@ fn image_step(file: &[u8], at: usize, number: usize) -> Step
 // All images, from the first on.
 fn images_step(file: &[u8], count: usize) -> Step
     requires { ⌜ (4 ≤ length (now file)) × (length (now file) ≤ 450000) × (count ≤ 4294967296) ⌝ }
+    ensures { λ r. ⌜ r ≡ imagesStep (old file) count ⌝ }
     ensures { λ r. ⌜ r .at ≤ length (now (file .entry)) ⌝ }
 {
     let mut next = 4;

@@ -7,13 +7,41 @@ use reference::{Pass, Question, Record, Verdict};
 /// How many questions are recorded for an image.
 const QUESTIONS: usize = 4;
 
+/// The bytes of the count.
+const COUNT: usize = 4;
+
 /// The count, then image after image.
 pub fn file(images: &[Vec<u8>]) -> Vec<u8> {
-    let mut out = Vec::new();
-    out.extend((images.len() as u32).to_le_bytes());
-    for image in images {
-        write_image(image, &mut out);
+    let entries: Vec<Vec<u8>> = images.iter().map(|image| entry(image)).collect();
+    recording(&entries)
+}
+
+/// As many recordings as it takes for each to be shorter than `limit` bytes.
+pub fn files(images: &[Vec<u8>], limit: usize) -> Vec<Vec<u8>> {
+    let mut files = Vec::new();
+    let mut entries = Vec::new();
+    let mut length = COUNT;
+    for entry in images.iter().map(|image| entry(image)) {
+        if limit <= length + entry.len() {
+            files.push(recording(&entries));
+            entries.clear();
+            length = COUNT;
+        }
+        length += entry.len();
+        entries.push(entry);
     }
+    files.push(recording(&entries));
+    files
+}
+
+fn recording(entries: &[Vec<u8>]) -> Vec<u8> {
+    [(entries.len() as u32).to_le_bytes().to_vec(), entries.concat()].concat()
+}
+
+/// An image and the answers to it.
+fn entry(image: &[u8]) -> Vec<u8> {
+    let mut out = Vec::new();
+    write_image(image, &mut out);
     out
 }
 
@@ -61,7 +89,7 @@ fn write_questions(image: &[u8], out: &mut Vec<u8>) {
     }
 }
 
-pub fn readme(images: usize, bytes: usize) -> String {
+pub fn readme(images: usize, bytes: usize, room: usize) -> String {
     format!(
         "# Recorded answers
 
@@ -77,7 +105,13 @@ related words and the refusals are the reference's alone, since the Rust stops a
 and knows no image. The same command writes the same bytes again.
 
 `answers.bin` is a link to `crates/replay/stdin`, since `rt` follows no link there: the program
-`replay` reads it on every `rt check` and must find that nothing differs.
+`replay` reads it on every `rt check` and must find that nothing differs. How it is read and compared
+is `crates/recording`.
+
+`recorded/replay FILE..` replays any recordings: it prints each difference, then how many images
+there were, and ends with 0 only where nothing differs. The program takes recordings of less than
+{room} bytes, so `record generated N DIR` writes as many as it takes: the patterns, the limits on
+both sides, and N generated images of every class, always the same. The tests replay these.
 
 Numbers are little-endian. The file is read from front to back:
 

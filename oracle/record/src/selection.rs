@@ -1,13 +1,15 @@
 //! Which images are recorded: all patterns, the limits that are small, and generated ones until
-//! each code and each refusal has come often enough.
+//! each code and each refusal has come often enough; or as many of every class as are wanted.
 
-use compare::images::{admitted_image, by_hand, damaged_image};
+use compare::images::{Range, admitted_image, all_classes, by_hand, damaged_image};
 use compare::rust::agree_on;
 use generate::CODES;
 
 /// No image over this length is recorded, so that the whole stays small.
 const LONGEST: usize = 1_600;
 const SEED: u64 = 20;
+/// The seed of those that are only replayed, and not kept.
+const GENERATED: u64 = 21;
 /// How often each code, as the first of its pass, and each refusal is wanted.
 const ENOUGH: usize = 4;
 /// How many clean images are wanted.
@@ -28,10 +30,20 @@ pub fn images() -> Result<Vec<Vec<u8>>, String> {
     if let Some(rare) = rare {
         return Err(format!("{rare} came only {} times\n", seen[rare]));
     }
-    for image in &chosen {
+    agreed(chosen)
+}
+
+/// The images by hand, and `images` generated ones of every class, of any length.
+pub fn generated(images: u64) -> Result<Vec<Vec<u8>>, String> {
+    agreed(all_classes(Range { images, seed: GENERATED }).map(|(_, image)| image).collect())
+}
+
+/// The same images, if the published Rust gives the plain reading's verdicts on each that is admitted.
+fn agreed(images: Vec<Vec<u8>>) -> Result<Vec<Vec<u8>>, String> {
+    for image in &images {
         agree_on(image).map_err(|m| format!("the Rust differs: {}\n", m.what))?;
     }
-    Ok(chosen)
+    Ok(images)
 }
 
 /// Whether the image shows something that has not come often enough.
