@@ -1,1 +1,2 @@
+pub mod Bodied
 pub mod Glance

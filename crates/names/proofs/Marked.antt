@@ -10,7 +10,7 @@ use Rattle.image.specs.Admit.{refusal}
 use Rattle.image.proofs.Given.{given}
 use Rattle.rules.specs.Sweep.{either, same}
 use Rattle.rules.proofs.Reflect.{tells-as, tells-same, one-fact}
-use Rattle.nodes.specs.Shown.{word}
+use Rattle.nodes.specs.Shown.{nameText}
 use Rattle.nodes.specs.Marks.{Marks, marking}
 use Rattle.nodes.proofs.Names.{same-not, marks-as, marks-set, either-false}
 use Rattle.names.specs.Found.{Numbered}
@@ -26,7 +26,7 @@ module _ {s : List ℕ} (e : refusal s ≡ 0) {w : List ℕ} {x : ℕ} (N : Numb
   pub word-none : x < 1 → Marks s (λ v. either (P v) (same v w)) r
   word-none l = record {
     size = M .size;
-    mark = λ y a b. M .mark y a b ∙ sym (ap (either (P (word s y))) (same-not (word s y) w (N .none (omega arith) y a b)) ∙ either-false (P (word s y)));
+    mark = λ y a b. M .mark y a b ∙ sym (ap (either (P (nameText s y))) (same-not (nameText s y) w (N .none (omega arith) y a b)) ∙ either-false (P (nameText s y)));
   }
 
   pub word-marks : 1 ≤ x → Marks s (λ v. either (P v) (same v w)) (set r (x - 1) true)

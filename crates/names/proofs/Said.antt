@@ -10,7 +10,7 @@ use Rattle.image.proofs.Decide.{eq-or-ne}
 use Rattle.rules.specs.Sweep.{same}
 use Rattle.rules.proofs.Reflect.{tells-as, tells-eqb, tells-same, one-fact}
 use Rattle.rules.proofs.Numbers.{same-numbers}
-use Rattle.nodes.specs.Shown.{View, Worded, treeOf, number, word}
+use Rattle.nodes.specs.Shown.{View, Worded, treeOf, number, nameText}
 use Rattle.nodes.proofs.Parts.{ranged}
 use Rattle.nodes.proofs.Turns.{carries-in}
 use Rattle.names.specs.Found.{Numbered}
@@ -23,7 +23,7 @@ module _ {part : List ℕ} {b p q : ℕ} (D : Worded part b p) (W : View part b)
   said = one-fact (tells-as so back (tells-eqb (number (W .image) p) q)) (tells-same (treeOf W .text p) w)
     where
       so : number (W .image) p ≡ q → treeOf W .text p ≡ w
-      so e = ap (word (W .image)) e ∙ N .is (let h = in-names in omega arith)
+      so e = ap (nameText (W .image)) e ∙ N .is (let h = in-names in omega arith)
 
       back : treeOf W .text p ≡ w → number (W .image) p ≡ q
       back f =

@@ -11,7 +11,7 @@ use Rattle.image.specs.declared.Image.{Image}
 use Rattle.image.proofs.Given.{given}
 use Rattle.image.proofs.Tree.{named}
 use Rattle.rules.proofs.Numbers.{rises}
-use Rattle.nodes.specs.Shown.{Admitted, word}
+use Rattle.nodes.specs.Shown.{Admitted, nameText}
 
 module _ {s : List ℕ} {head : Image} (H : Admitted s head) where
   -- the table from t on, and the text from x on, by the header's counts
@@ -31,9 +31,9 @@ module _ {s : List ℕ} {head : Image} (H : Admitted s head) where
           let h = rw z at (named (slice s t x) (slice s x (length s)) (head .names) (k + 1) g (omega arith) (omega arith)) in
           (omega arith, omega arith)
 
-      pub lies-there : slice (slice s x (length s)) a b ≡ word s (k + 1)
+      pub lies-there : slice (slice s x (length s)) a b ≡ nameText s (k + 1)
       lies-there = let z : k + 1 - 1 ≡ k = omega arith in rw (z, ← table-is, ← text-is, d, e)
 
   -- names ascend by their bytes
-  pub ascends : (i j : ℕ) → i < j → j ≤ nameCount s → less (word s i) (word s j) ≡ true
+  pub ascends : (i j : ℕ) → i < j → j ≤ nameCount s → less (nameText s i) (nameText s j) ≡ true
   ascends i j l h = let d : i + suc (j - suc i) ≡ j = omega arith in rw d at (rises s (H .admitted) (j - suc i) i (omega arith))

@@ -7,20 +7,20 @@ use Rattle.image.specs.Text.{less}
 use Rattle.image.specs.Admit.{refusal, nameCount}
 use Rattle.rules.specs.Sweep.{either, same}
 use Rattle.records.specs.Words.{Lent, old, new}
-use Rattle.nodes.specs.Shown.{word}
+use Rattle.nodes.specs.Shown.{nameText}
 use Rattle.nodes.specs.Marks.{Marks}
 
 -- r names are before w, and the others are not
 pub record Parted (s w : List ℕ) (r : ℕ) : Type 0 where
   pub high : r ≤ nameCount s
-  pub under : (k : ℕ) → k < r → less (word s (k + 1)) w ≡ true
-  pub over : (k : ℕ) → r ≤ k → k < nameCount s → less (word s (k + 1)) w ≡ false
+  pub under : (k : ℕ) → k < r → less (nameText s (k + 1)) w ≡ true
+  pub over : (k : ℕ) → r ≤ k → k < nameCount s → less (nameText s (k + 1)) w ≡ false
 
 -- r is the number of the name w; 0 where no name has these bytes
 pub record Numbered (s w : List ℕ) (r : ℕ) : Type 0 where
   pub high : r ≤ nameCount s
-  pub is : 1 ≤ r → word s r ≡ w
-  pub none : r ≡ 0 → (x : ℕ) → 1 ≤ x → x ≤ nameCount s → word s x ≡ w → ⊥
+  pub is : 1 ≤ r → nameText s r ≡ w
+  pub none : r ≡ 0 → (x : ℕ) → 1 ≤ x → x ≤ nameCount s → nameText s x ≡ w → ⊥
 
 -- a function that is lent a table marks the word of this number, whichever admitted image has the names
 abbrev pub MarksNumber : ℕ → Lent (List Bool) → Type 0

@@ -8,7 +8,7 @@ ghost use Prim.Native.Nat.{ℕ, _+_, _<_, _≤_};
 ghost use Rattle.image.specs.Maxima.{maxNames};
 ghost use Rattle.rules.specs.Sweep.{same};
 ghost use Rattle.records.specs.Words.{old, new};
-ghost use Rattle.nodes.specs.Shown.{View, Worded, Admitted, treeOf, word};
+ghost use Rattle.nodes.specs.Shown.{View, Worded, Admitted, treeOf, nameText};
 ghost use Rattle.nodes.specs.Marks.{Marks};
 ghost use Rattle.names.specs.Found.{Parted, Numbered, MarksNumber};
 ghost use Rattle.names.specs.Spelled.{BuiltinsOf, MethodsOf, WordsOf};
@@ -33,7 +33,7 @@ pub fn equal(v: &[u8], w: &[u8]) -> bool
 // The bytes of the name at place k, from 0.
 fn name_at(image: &[u8], head: Image, k: usize) -> &[u8]
     requires { ⌜ Admitted (now image) head × (k < head .names) ⌝ }
-    ensures { λ r. ⌜ now r ≡ word (old image) (k + 1) ⌝ }
+    ensures { λ r. ⌜ now r ≡ nameText (old image) (k + 1) ⌝ }
 {
     let table = head.names_at();
     let texts = head.text_at();
@@ -44,15 +44,15 @@ fn name_at(image: &[u8], head: Image, k: usize) -> &[u8]
 }
 
 // How many names are before a word: names ascend by their bytes, so a binary search.
-fn count_before(image: &[u8], head: Image, word: &[u8]) -> usize
+fn count_before(image: &[u8], head: Image, nameText: &[u8]) -> usize
     requires { ⌜ Admitted (now image) head ⌝ }
-    ensures { λ r. ⌜ Parted (old image) (old word) r ⌝ }
+    ensures { λ r. ⌜ Parted (old image) (old nameText) r ⌝ }
 {
     let mut low = 0;
     let mut high = head.names;
     while low < high {
         let middle = (low + high) / 2;
-        if image::below(name_at(image, head, middle), word) {
+        if image::below(name_at(image, head, middle), nameText) {
             low = middle + 1;
         } else {
             high = middle;
@@ -62,15 +62,15 @@ fn count_before(image: &[u8], head: Image, word: &[u8]) -> usize
 }
 
 // The number of a word; 0 where no name of the image has these bytes.
-pub fn number_of(image: &[u8], head: Image, word: &[u8]) -> usize
+pub fn number_of(image: &[u8], head: Image, nameText: &[u8]) -> usize
     requires { ⌜ Admitted (now image) head ⌝ }
-    ensures { λ r. ⌜ Numbered (old image) (old word) r ⌝ }
+    ensures { λ r. ⌜ Numbered (old image) (old nameText) r ⌝ }
 {
-    let k = count_before(image, head, word);
+    let k = count_before(image, head, nameText);
     if head.names <= k {
         return 0;
     }
-    if !equal(name_at(image, head, k), word) {
+    if !equal(name_at(image, head, k), nameText) {
         return 0;
     }
     k + 1

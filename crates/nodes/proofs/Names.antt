@@ -22,7 +22,7 @@ use Rattle.image.proofs.Given.{given}
 use Rattle.rules.specs.Sweep.{either, same}
 use Rattle.rules.proofs.Reflect.{tells-same}
 use Rattle.rules.proofs.Numbers.{same-numbers}
-use Rattle.nodes.specs.Shown.{word, number}
+use Rattle.nodes.specs.Shown.{nameText, number}
 use Rattle.nodes.specs.Table.{Table}
 use Rattle.nodes.specs.Marks.{Marks, marking}
 
@@ -102,24 +102,24 @@ pub marks-none : {A : Type 0} {d : A} (s : List ℕ) → refusal s ≡ 0 → Tab
 marks-none {d = d} s e = record { size = length-replicate 1024 d; mark = λ x l h. getD-replicate 1024 (x - 1) d d (let m = given s e .header .names in omega arith) }
 
 pub marks-as : {A : Type 0} {d : A} {s : List ℕ} {F G : List ℕ → A} {r : List A} → ((w : List ℕ) → F w ≡ G w) → Table d s F r → Table d s G r
-marks-as {s = s} f T = record { size = T .size; mark = λ x l h. T .mark x l h ∙ f (word s x) }
+marks-as {s = s} f T = record { size = T .size; mark = λ x l h. T .mark x l h ∙ f (nameText s x) }
 
 -- the mark of name y is set to u, which is what G makes of it: so it is for the bytes that it has
-pub marks-put : {A : Type 0} {d : A} (G : A → Bool → A) (s : List ℕ) (F : List ℕ → A) (r : List A) (y : ℕ) (u : A) → u ≡ G (F (word s y)) true → ((v : A) → G v false ≡ v)
-    → refusal s ≡ 0 → 1 ≤ y → y ≤ nameCount s → Table d s F r → Table d s (λ w. G (F w) (same (word s y) w)) (set r (y - 1) u)
+pub marks-put : {A : Type 0} {d : A} (G : A → Bool → A) (s : List ℕ) (F : List ℕ → A) (r : List A) (y : ℕ) (u : A) → u ≡ G (F (nameText s y)) true → ((v : A) → G v false ≡ v)
+    → refusal s ≡ 0 → 1 ≤ y → y ≤ nameCount s → Table d s F r → Table d s (λ w. G (F w) (same (nameText s y) w)) (set r (y - 1) u)
 marks-put {A} {d} G s F r y u hit miss e l h T = record { size = length-set r (y - 1) u ∙ T .size; mark = at-name }
   where
-    at-name : (x : ℕ) → 1 ≤ x → x ≤ nameCount s → getD (set r (y - 1) u) (x - 1) d ≡ G (F (word s x)) (same (word s y) (word s x))
+    at-name : (x : ℕ) → 1 ≤ x → x ≤ nameCount s → getD (set r (y - 1) u) (x - 1) d ≡ G (F (nameText s x)) (same (nameText s y) (nameText s x))
     at-name x a c =
         let m = given s e .header .names in
         let z = T .size in
         ⊎-elim
-        (λ (q : y ≡ x). rw (← q) (getD-set-same r (y - 1) u d (omega arith) ∙ hit ∙ sym (ap (G (F (word s y))) (same-is (word s y)))))
+        (λ (q : y ≡ x). rw (← q) (getD-set-same r (y - 1) u d (omega arith) ∙ hit ∙ sym (ap (G (F (nameText s y))) (same-is (nameText s y)))))
         (λ (n : y ≡ x → ⊥).
-        getD-set-other r (y - 1) (x - 1) u d (omega (arith, n)) ∙ T .mark x a c ∙ sym (miss (F (word s x)))
-        ∙ sym (ap (G (F (word s x))) (same-not (word s y) (word s x) (λ q. n (same-numbers s e y x h c q)))))
+        getD-set-other r (y - 1) (x - 1) u d (omega (arith, n)) ∙ T .mark x a c ∙ sym (miss (F (nameText s x)))
+        ∙ sym (ap (G (F (nameText s x))) (same-not (nameText s y) (nameText s x) (λ q. n (same-numbers s e y x h c q)))))
         (eq-or-ne y x)
 
 -- of Bools: the mark of name y is set or taken off
-pub marks-set : (on : Bool) (s : List ℕ) (P : List ℕ → Bool) (r : List Bool) (y : ℕ) → refusal s ≡ 0 → 1 ≤ y → y ≤ nameCount s → Marks s P r → Marks s (λ w. marking on (P w) (same (word s y) w)) (set r (y - 1) on)
-marks-set on s P r y = marks-put (marking on) s P r y on (sym (marking-all on (P (word s y)))) (marking-none on)
+pub marks-set : (on : Bool) (s : List ℕ) (P : List ℕ → Bool) (r : List Bool) (y : ℕ) → refusal s ≡ 0 → 1 ≤ y → y ≤ nameCount s → Marks s P r → Marks s (λ w. marking on (P w) (same (nameText s y) w)) (set r (y - 1) on)
+marks-set on s P r y = marks-put (marking on) s P r y on (sym (marking-all on (P (nameText s y)))) (marking-none on)

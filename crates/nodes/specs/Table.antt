@@ -5,11 +5,11 @@ use mathlib.Core.List.{List}
 use lib.ListN.{length, getD}
 use Rattle.image.specs.Maxima.{maxNames}
 use Rattle.image.specs.Admit.{nameCount}
-use Rattle.nodes.specs.Shown.{word}
+use Rattle.nodes.specs.Shown.{nameText}
 
 pub record Table {A : Type 0} (d : A) (s : List ℕ) (F : List ℕ → A) (r : List A) : Type 0 where
   pub size : length r ≡ maxNames
-  pub mark : (x : ℕ) → 1 ≤ x → x ≤ nameCount s → getD r (x - 1) d ≡ F (word s x)
+  pub mark : (x : ℕ) → 1 ≤ x → x ≤ nameCount s → getD r (x - 1) d ≡ F (nameText s x)
 
 -- a function that is lent a table changes what it says of w from v to G x w v, whichever x the nodes are seen by
 abbrev pub Changed : {A : Type 0} → A → {X : Type 0} → (X → List ℕ) → (X → List ℕ → A → A) → List A → List A → Type 0

@@ -1,32 +1,16 @@
 -- Laws of what is laid: nothing, one run after another, the length of the buffer.
-use Prim.Native.Nat.{ℕ, suc, _+_, _*_, _≤_}
+use Prim.Native.Nat.{ℕ, _+_, _*_, _≤_}
 use mathlib.Core.List.{List, [], _∷_, _++_}
 use mathlib.Core.Path.{_≡_, refl, ap, _∙_, sym}
-use lib.ListN.{length, length-append, set}
-use lib.Seq.{sets, length-sets}
+use lib.ListN.{length, length-append}
+use lib.Seq.{length-sets}
 use native.Mathlib.Omega.{arith}
 use mathlib.Core.Bool.{Bool, true, false}
 use Rattle.rules.specs.Vocabulary.{Rec, rec, only}
+pub use Rattle.rules.proofs.Answers.{sets-append}
+use Rattle.rules.proofs.Answers.{laid-append}
 use Rattle.records.specs.declared.Hit.{Hit}
 use Rattle.records.specs.Records.{words, laid, Laid, Added, Asks, hitList, AsksAt}
-
-words-append : (a b : List Rec) → words (a ++ b) ≡ words a ++ words b
-words-append [] b = refl
-words-append (r ∷ rs) b = ap (λ (l : List ℕ). r .code ∷ r .place ∷ r .related ∷ l) (words-append rs b)
-
-pub sets-append : (l : List ℕ) (i : ℕ) (a b : List ℕ) → sets l i (a ++ b) ≡ sets (sets l i a) (i + length a) b
-sets-append l i [] b = ap (λ (n : ℕ). sets l n b) (omega arith)
-sets-append l i (x ∷ a) b = sets-append (set l i x) (suc i) a b ∙ ap (λ (n : ℕ). sets (sets (set l i x) (suc i) a) n b) (omega arith)
-
-length-words : (a : List Rec) → length (words a) ≡ 3 * length a
-length-words [] = refl
-length-words (r ∷ rs) = let h : length (words rs) ≡ 3 * length rs = length-words rs in omega arith
-
-laid-append : (o : List ℕ) (k : ℕ) (a b : List Rec) → laid o k (a ++ b) ≡ laid (laid o k a) (k + length a) b
-laid-append o k a b =
-    ap (sets o (3 * k)) (words-append a b)
-    ∙ sets-append o (3 * k) (words a) (words b)
-    ∙ ap (λ (n : ℕ). sets (sets o (3 * k) (words a)) n (words b)) (omega (arith, length-words a))
 
 pub laid-none : (o : List ℕ) (k : ℕ) → Laid o k [] o k
 laid-none o k = record { count = omega arith; words = refl }

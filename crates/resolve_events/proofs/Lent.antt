@@ -2,14 +2,13 @@
 use Prim.Native.Nat.{ℕ, _-_, _<_}
 use mathlib.Core.Path.{_≡_, refl, sym, subst}
 use mathlib.Core.Bool.{true}
-use mathlib.Core.List.{List, [], _∷_, List·Memᴰ·eq-of-singleton, List·Memᴰ·cases-cons}
-use mathlib.Core.Logic.{_⊎_, inl, inr, ⊎-elim}
+use mathlib.Core.List.{List, [], _∷_}
+use mathlib.Core.Logic.{⊎-elim}
 use lib.ListN.{replicate}
 use Rattle.rules.specs.Sweep.{run, keep, has}
 use Rattle.rules.specs.Standing.{all-items}
-use Rattle.rules.specs.Tree.{event, bodied, emit, statement}
+use Rattle.rules.specs.Tree.{event, emit, statement}
 use Rattle.rules.specs.Vocabulary.{below}
-use Rattle.rules.proofs.Reflect.{tells-has}
 use Rattle.records.proofs.Sweep.{run-below-later}
 use Rattle.nodes.specs.Shown.{View, Shown, In, treeOf}
 use Rattle.nodes.specs.First.{Starts}
@@ -20,11 +19,8 @@ use Rattle.places.specs.Places.{notesBelow}
 use Rattle.places.specs.declared.Note.the-variants as note
 use Rattle.places.proofs.Noting.{places-none}
 use Rattle.resolve_emits.specs.Emitted.{Emitted, emitRules}
+pub use Rattle.items.proofs.Bodied.{is-bodied}
 use Rattle.resolve_events.specs.Events.{Bodied, Events}
-
--- the kinds of items that hold statements
-pub is-bodied : (k : ℕ) → Bodied k → (k ≡ 7) ⊎ (k ≡ 9)
-is-bodied k b = ⊎-elim inl (λ m. inr (List·Memᴰ·eq-of-singleton m)) (List·Memᴰ·cases-cons (tells-has k bodied .so b))
 
 pub is-item : (k : ℕ) → Bodied k → allIn (k ∷ []) all-items ≡ true
 unfolding allIn has

@@ -1,16 +1,14 @@
 -- Over one Asset item: a walk that remembers the last one it met; and no 22 where the image has no name `mint_asset`.
 use Prim.Native.Nat.{ℕ, _<_, _≤_}
 use mathlib.Core.Path.{_≡_, refl, ap, _∙_, sym}
-use mathlib.Core.Bool.{Bool, true, false, true≢false}
+use mathlib.Core.Bool.{true, false, true≢false}
 use mathlib.Core.List.{List, [], List·Memᴰ·eq-of-singleton}
 use mathlib.Core.Logic.{_⊎_, inl, inr, ⊎-elim}
 use native.Mathlib.Nat.{eq-or-lt-of-le}
 use native.Mathlib.Omega.{arith}
-use borrow.Author.Tests.{eqb-true}
-use lib.Dec.{eqb}
 use Rattle.image.proofs.Decide.{lt-or-ge}
-use Rattle.rules.specs.Sweep.{has, either}
-use Rattle.rules.specs.Tree.{Tree, asset, bodied}
+use Rattle.rules.specs.Sweep.{has}
+use Rattle.rules.specs.Tree.{Tree, asset}
 use Rattle.rules.specs.Vocabulary.{Below}
 use Rattle.rules.specs.Words.{mint-asset}
 use Rattle.rules.specs.Resolve.{manyAssets, ManyAssets, mintCalls, group22, Offence22}
@@ -96,13 +94,3 @@ few-22 t e = rw e
 pub many-22 : (t : Tree) → manyAssets t ≡ true → mintCalls t ≡ group22 t
 unfolding group22
 many-22 t e = rw e
-
--- the items that hold statements
-pub bodied-is : (k : ℕ) → has k bodied ≡ true → (k ≡ 7) ⊎ (k ≡ 9)
-unfolding has
-bodied-is k e = go (eqb k 7) refl (eqb k 9) refl e
-  where
-    go : (x : Bool) → eqb k 7 ≡ x → (y : Bool) → eqb k 9 ≡ y → either x (either y false) ≡ true → (k ≡ 7) ⊎ (k ≡ 9)
-    go true d y f e = inl (eqb-true k 7 d)
-    go false d true f e = inr (eqb-true k 9 f)
-    go false d false f e = absurd (true≢false (sym e))

@@ -96,7 +96,7 @@ pub words-append : (a b : List Rec) → words (a ++ b) ≡ words a ++ words b
 words-append [] b = refl
 words-append (r ∷ a) b = ap (λ (l : List ℕ). r .code ∷ r .place ∷ r .related ∷ l) (words-append a b)
 
-sets-append : (o : List ℕ) (i : ℕ) (v w : List ℕ) → sets o i (v ++ w) ≡ sets (sets o i v) (i + length v) w
+pub sets-append : (o : List ℕ) (i : ℕ) (v w : List ℕ) → sets o i (v ++ w) ≡ sets (sets o i v) (i + length v) w
 sets-append o i [] w = ap (λ (n : ℕ). sets o n w) (omega arith)
 sets-append o i (x ∷ v) w = sets-append (set o i x) (suc i) v w ∙ ap (λ (n : ℕ). sets (sets (set o i x) (suc i) v) n w) (omega arith)
 

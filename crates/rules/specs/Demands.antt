@@ -1,16 +1,16 @@
 -- The three demands, each as one statement over what the entry points answer (specs/Answers, specs/Report): read this page first.
 -- Proved in proofs/Demands, as `demand-1`, `demand-2` and `demand-3`. The bytes `s` of an image, `w` of a name, `o` of a list's buffer
 -- and the rows `z` of a lent table are any lists. That an entry point ends on all of them and does nothing undefined holds of every
--- Rattle function, and that it answers what stands here is its contract (`v` is a case, with the numbers of document 01):
---   `refused`, `isonkaypu_refusal`                          the number `refusal s`
---   `resolve`, `access`, `linear`, also for C, `verdicts`   `passAnswer` of the pass
---   `isonkaypu_verdicts`                                    `verdictRows s`, twelve numbers
---   `is_state` and the other two questions, also for C      `ask` of the test
---   `list`, also for C                                      `listAnswer`, and `listBuffer` in the buffer
---   `resolve_list` and the other two parts, also for C      `partAnswer`, and `partWords` in the buffer
---   `linear` of linear_lent                                 `passAnswer`, and `lentRows` in the table
---   `render`                                                `reportText`
--- No lent image, name, list buffer or row changes on refusal. What the C face writes to `place`, `from`, `to`, `yes`, `count` and
+-- Rattle function. Each contract says by which definition it answers, on all inputs:
+--   `typeck::refused`, `isonkaypu_refusal`             `refusal s`
+--   `resolve`, `access`, `linear`, also for C          `passAnswer` of the pass
+--   `verdicts`, `isonkaypu_verdicts`                   the three of them; `verdictRows s`, twelve numbers
+--   `is_state` and the two other questions, also for C `ask` of the test
+--   `list`, also for C                                 `listAnswer`, and in the buffer `listBuffer`
+--   `resolve_list` and the two other parts, also for C `partAnswer`, and in the buffer `partWords`
+--   `linear_lent::linear`, `linear_lent::linear_here`  `passAnswer`, and in the table `lentRows`
+--   `render`                                           `reportText`
+-- On refusal no lent image, name, list buffer or row has changed. What the C face writes to `place`, `from`, `to`, `yes`, `count` and
 -- `numbers` are answers: on refusal zeros, beside the number.
 use Prim.Native.Nat.{ℕ, _*_, _<_, _≤_}
 use mathlib.Core.Path.{_≡_}

@@ -5,15 +5,15 @@ use Prim.Native.Nat.{ℕ, _+_}
 use mathlib.Core.Path.{_≡_, sym, ap, _∙_}
 use mathlib.Core.List.{List}
 use Rattle.rules.specs.Sweep.{same}
-use Rattle.nodes.specs.Shown.{word}
+use Rattle.nodes.specs.Shown.{nameText}
 use Rattle.nodes.proofs.Fall.{not-false, not-true}
 use Rattle.names.proofs.Located.{found-none, found-other, found-here}
 use Rattle.names.proofs.number_of.Statement.{statement}
 use Rattle.names.proofs.number_of.Tie as tie
 
 -- what the comparison says of the name
-compared : (c : tie.After-equal) → c .equal .result ≡ same (word (c .before .before .before .before .before .before .before .args .image .now) (c .before .before .before .before .count-before .result + 1)) (c .before .before .before .before .before .before .before .args .word .now)
-compared c = c .equal .ensures ∙ ap (λ (v : List ℕ). same v (c .before .before .before .before .before .before .before .args .word .now)) (c .before .name-at .ensures)
+compared : (c : tie.After-equal) → c .equal .result ≡ same (nameText (c .before .before .before .before .before .before .before .args .image .now) (c .before .before .before .before .count-before .result + 1)) (c .before .before .before .before .before .before .before .args .nameText .now)
+compared c = c .equal .ensures ∙ ap (λ (v : List ℕ). same v (c .before .before .before .before .before .before .before .args .nameText .now)) (c .before .name-at .ensures)
 
 returns : tie.Need-returns
 returns c = let n = c .before .before .before .before .before .pre .names in found-none (c .before .before .before .before .before .pre) (c .before .before .count-before .ensures) (let h = c .if1 .taken in omega arith)

@@ -10,7 +10,7 @@ use Rattle.records.proofs.Sweep.{keep-one, keep-none}
 use Rattle.nodes.specs.Shown.{View, treeOf}
 use Rattle.nodes.proofs.Fall.{not-true, not-false}
 use Rattle.nodes.proofs.Flat.{flat-calls}
-use Rattle.resolve_mints.proofs.Assets.{bodied-is}
+use Rattle.items.proofs.Bodied.{is-bodied}
 use Rattle.resolve_mints.proofs.Laws.{lent-minting}
 use Rattle.resolve_mints.proofs.item22.Statement.{statement}
 use Rattle.resolve_mints.proofs.item22.Tie as tie
@@ -34,7 +34,7 @@ returns-2 c =
     (λ T.
     let W = T .view in
     let k = told (c .before .before .before .before .before .before .before) W ∙ not-false _ (c .before .before .before .before .before .before .if1 .left) in
-    flat-calls W (d .pre .1) (d .pre .2) (bodied-is _ k) (c .before .before .before .before .before .first-statement .ensures W) (rule22 (treeOf W)) ∙ sym (keep-one _ _ k))
+    flat-calls W (d .pre .1) (d .pre .2) (is-bodied _ k) (c .before .before .before .before .before .first-statement .ensures W) (rule22 (treeOf W)) ∙ sym (keep-one _ _ k))
     (c .before .before .calls22 .ensures)
 
 pub item22-spec : {M : Type 1} → statement M
