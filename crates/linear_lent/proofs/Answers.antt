@@ -12,7 +12,7 @@ use Rattle.rules.specs.Answers.{spanFrom, spanTo}
 use Rattle.nodes.specs.Shown.{Admitted}
 use Rattle.passes.specs.declared.Verdict.the-variants as answer
 use Rattle.typeck.specs.Face.{verdictOf}
-use Rattle.linear_lent.specs.declared.Found.{Found}
+use Rattle.linear_steps.specs.declared.Found.{Found}
 use Rattle.linear_lent.specs.Lent.{answered}
 
 module _ (s : List ℕ) (z : refusal s ≡ 0) where

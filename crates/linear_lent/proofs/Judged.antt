@@ -28,10 +28,11 @@ use Rattle.typeck.specs.Face.{Judged, verdictOf}
 use Rattle.passes.proofs.Laws.{judged-refused, judged-numbers}
 use Rattle.linear_table.specs.declared.Row.{Row}
 use Rattle.linear_table.specs.Table.{blankRow, nthRow, rowIn, rowFor, oneRow, entryRows, itemRows, entry60s, Cut, TableOf}
-use Rattle.linear_lent.specs.declared.Found.{Found}
-use Rattle.linear_lent.specs.declared.State.{State}
-use Rattle.linear_lent.specs.declared.Turn.{Turn}
-use Rattle.linear_lent.specs.Lent.{JudgedIn, foundAt, judgeRow, rowBefore, stepOf, stateWith, firstFound, startOf, drove, ran, answered}
+use Rattle.linear_steps.specs.declared.Found.{Found}
+use Rattle.linear_steps.specs.declared.State.{State}
+use Rattle.linear_steps.specs.declared.Turn.{Turn}
+use Rattle.linear_steps.specs.Step.{foundAt, judgeRow, rowBefore, stepOf, stateWith, firstFound, startOf}
+use Rattle.linear_lent.specs.Lent.{JudgedIn, drove, ran, answered}
 
 -- The rows, from the last to the first
 

@@ -9,9 +9,10 @@ use lib.ListN.{set, getD}
 use Rattle.image.specs.Pick.{pick}
 use Rattle.linear_table.specs.declared.Row.{Row}
 use Rattle.linear_table.specs.Table.{nthRow, rowIn, blankRow}
-use Rattle.linear_lent.specs.declared.State.{State}
-use Rattle.linear_lent.specs.declared.Turn.{Turn}
-use Rattle.linear_lent.specs.Lent.{judgeRow, rowBefore, nextOf, stepOf, stateWith, firstFound, foundAt, startOf, drove}
+use Rattle.linear_steps.specs.declared.State.{State}
+use Rattle.linear_steps.specs.declared.Turn.{Turn}
+use Rattle.linear_steps.specs.Step.{judgeRow, rowBefore, nextOf, stepOf, stateWith, firstFound, foundAt, startOf}
+use Rattle.linear_lent.specs.Lent.{drove}
 
 before-in : (i : ℕ) → i < 511 → rowBefore i < 511
 before-in i h = go (eqb i 0)

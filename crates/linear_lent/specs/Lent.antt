@@ -8,8 +8,8 @@ use Rattle.passes.specs.declared.Verdict.{Verdict}
 use Rattle.typeck.specs.Face.{Judged}
 use Rattle.linear_table.specs.declared.Row.{Row}
 use Rattle.linear_table.specs.Table.{blankRow}
-pub use Rattle.linear_lent.specs.Steps.{foundAt, judgeRow, rowBefore, nextOf, stateWith, firstFound, ran, answered}
-unfoldable pub use Rattle.linear_lent.specs.Steps.{stepOf, startOf, drove}
+pub use Rattle.linear_lent.specs.Steps.{ran, answered}
+unfoldable pub use Rattle.linear_lent.specs.Steps.{drove}
 
 -- The public form: the verdict of the pass; the rows as they were on refusal 1 to 8, else all blank
 abbrev pub rowsAfter : List ℕ → List Row → List Row

@@ -52,22 +52,23 @@ use Rattle.linear_table.specs.declared.Row.{Row}
 use Rattle.linear_table.specs.Table.{blankRow, nthRow}
 use Rattle.linear_table.proofs.Row as T
 use Rattle.linear_table.proofs.Row.Laws as T′
-use Rattle.linear_lent.specs.declared.State.{State}
-use Rattle.linear_lent.specs.declared.Turn.{Turn}
-use Rattle.linear_lent.specs.Lent.{stepOf, startOf, drove, ran}
+use Rattle.linear_steps.specs.declared.State.{State}
+use Rattle.linear_steps.specs.declared.Turn.{Turn}
+use Rattle.linear_steps.specs.Step.{stepOf, startOf}
+use Rattle.linear_lent.specs.Lent.{drove, ran}
 use Rattle.linear_lent.proofs.Steps.{start-in, none-left, falls, stays-in, stepped}
-use Rattle.linear_lent.proofs.State as P
-use Rattle.linear_lent.proofs.State.Laws as P′
-use Rattle.linear_lent.proofs.Turn as U
-use Rattle.linear_lent.proofs.Turn.Laws as U′
-use Rattle.linear_lent.proofs.start as start
-use Rattle.linear_lent.proofs.start.Symbol as start-def
-use Rattle.linear_lent.proofs.start.Symbol.{name as #start}
-use Rattle.linear_lent.proofs.start.Met as start-thm
-use Rattle.linear_lent.proofs.advance as advance
-use Rattle.linear_lent.proofs.advance.Symbol as advance-def
-use Rattle.linear_lent.proofs.advance.Symbol.{name as #advance}
-use Rattle.linear_lent.proofs.advance.Met as advance-thm
+use Rattle.linear_steps.proofs.State as P
+use Rattle.linear_steps.proofs.State.Laws as P′
+use Rattle.linear_steps.proofs.Turn as U
+use Rattle.linear_steps.proofs.Turn.Laws as U′
+use Rattle.linear_steps.proofs.start as start
+use Rattle.linear_steps.proofs.start.Symbol as start-def
+use Rattle.linear_steps.proofs.start.Symbol.{name as #start}
+use Rattle.linear_steps.proofs.start.Met as start-thm
+use Rattle.linear_steps.proofs.advance as advance
+use Rattle.linear_steps.proofs.advance.Symbol as advance-def
+use Rattle.linear_steps.proofs.advance.Symbol.{name as #advance}
+use Rattle.linear_steps.proofs.advance.Met as advance-thm
 use Rattle.linear_lent.proofs.drive.Key.{name as #drive}
 use Rattle.linear_lent.proofs.drive as drive
 use Rattle.linear_lent.proofs.drive.Statement as stated
@@ -319,5 +320,5 @@ drive-spec 𝓤 H 𝓜 𝓖 𝓡 =
     entered 𝓤 H (tripleOf 𝓤 H (𝓖 .A) drive.signature (drive.spec 𝓤 H (𝓖 .A) (𝓜 .mem) (𝓡 .run)))
     (tables 𝓤 H 𝓜 𝓡 code.env .C) (tables 𝓤 H 𝓜 𝓡 code.env .Λ) #drive code.function (code.unfolded 𝓤 H 𝓜 𝓡)
     (drive-meets 𝓤 H (𝓖 .A) (givenOf 𝓤 H 𝓜 𝓖) (𝓜 .mem) (𝓡 .run) (tablesOf 𝓤 H 𝓜 (tables 𝓤 H 𝓜 𝓡 code.env))
-    (cited 𝓤 H (Start 𝓤 H (𝓖 .A) (𝓜 .mem) (𝓡 .run)) 𝓜 𝓡 code.env #start start-def.routine code.calls-linear-lent·start (start-thm.met 𝓤 H 𝓜 𝓖 𝓡))
-    (cited 𝓤 H (Step 𝓤 H (𝓖 .A) (𝓜 .mem) (𝓡 .run)) 𝓜 𝓡 code.env #advance advance-def.routine code.calls-linear-lent·advance (advance-thm.met 𝓤 H 𝓜 𝓖 𝓡)))
+    (cited 𝓤 H (Start 𝓤 H (𝓖 .A) (𝓜 .mem) (𝓡 .run)) 𝓜 𝓡 code.env #start start-def.routine code.calls-linear-steps·start (start-thm.met 𝓤 H 𝓜 𝓖 𝓡))
+    (cited 𝓤 H (Step 𝓤 H (𝓖 .A) (𝓜 .mem) (𝓡 .run)) 𝓜 𝓡 code.env #advance advance-def.routine code.calls-linear-steps·advance (advance-thm.met 𝓤 H 𝓜 𝓖 𝓡)))

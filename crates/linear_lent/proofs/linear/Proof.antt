@@ -58,11 +58,11 @@ use Rattle.linear_table.proofs.table_of as table-of
 use Rattle.linear_table.proofs.table_of.Symbol as table-of-def
 use Rattle.linear_table.proofs.table_of.Symbol.{name as #table-of}
 use Rattle.linear_table.proofs.table_of.Met as table-of-thm
-use Rattle.linear_lent.specs.declared.State.{State}
+use Rattle.linear_steps.specs.declared.State.{State}
 use Rattle.linear_lent.specs.Lent.{JudgedIn, ran, answered}
 use Rattle.linear_lent.proofs.Judged.{judged-in, found-admitted}
-use Rattle.linear_lent.proofs.State as P
-use Rattle.linear_lent.proofs.State.Laws as P′
+use Rattle.linear_steps.proofs.State as P
+use Rattle.linear_steps.proofs.State.Laws as P′
 use Rattle.linear_lent.proofs.drive as drive
 use Rattle.linear_lent.proofs.drive.Symbol as drive-def
 use Rattle.linear_lent.proofs.drive.Symbol.{name as #drive}

@@ -4,8 +4,8 @@ use borrow.Author.Tests.{eq-eqb, ne-eqb, lt-ltb, le-ltb}
 use native.Mathlib.Omega.{arith}
 use mathlib.Core.Path.{_≡_}
 use Prim.Native.Nat.{_+_, _<_, _≤_}
-use Rattle.linear_lent.proofs.judge_row.Statement.{statement}
-use Rattle.linear_lent.proofs.judge_row.Tie as tie
+use Rattle.linear_steps.proofs.judge_row.Statement.{statement}
+use Rattle.linear_steps.proofs.judge_row.Tie as tie
 
 returns : tie.Need-returns
 returns c = simp (eq-eqb _ _ (c .if1 .taken))

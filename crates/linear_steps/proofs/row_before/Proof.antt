@@ -1,8 +1,8 @@
 -- `row_before` meets its contract: 510, or one less.
 use borrow.Author.Needs.{needs}
 use borrow.Author.Tests.{eq-eqb, ne-eqb}
-use Rattle.linear_lent.proofs.row_before.Statement.{statement}
-use Rattle.linear_lent.proofs.row_before.Tie as tie
+use Rattle.linear_steps.proofs.row_before.Statement.{statement}
+use Rattle.linear_steps.proofs.row_before.Tie as tie
 
 returns : tie.Need-returns
 returns c = simp (eq-eqb _ _ (c .if1 .taken))

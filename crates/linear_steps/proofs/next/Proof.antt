@@ -1,8 +1,8 @@
 -- `next` meets its contract: each field by itself.
 use borrow.Author.Needs.{needs}
 use mathlib.Core.Path.{refl}
-use Rattle.linear_lent.proofs.next.Statement.{statement}
-use Rattle.linear_lent.proofs.next.Tie as tie
+use Rattle.linear_steps.proofs.next.Statement.{statement}
+use Rattle.linear_steps.proofs.next.Tie as tie
 
 returns : tie.Need-returns
 returns c = rw (c .before .row-before .ensures) refl

@@ -2,9 +2,9 @@
 use borrow.Author.Needs.{needs}
 use mathlib.Core.Path.{sym, _∙_}
 use borrow.Author.Tests.{eq-eqb, ne-eqb}
-use Rattle.linear_lent.specs.Lent.{startOf}
-use Rattle.linear_lent.proofs.start.Statement.{statement}
-use Rattle.linear_lent.proofs.start.Tie as tie
+use Rattle.linear_steps.specs.Step.{startOf}
+use Rattle.linear_steps.proofs.start.Statement.{statement}
+use Rattle.linear_steps.proofs.start.Tie as tie
 
 returns : tie.Need-returns
 unfolding startOf

@@ -1,9 +1,9 @@
 -- `advance` meets its contract: a row of the cells, or a blank one behind the row that is judged.
 use borrow.Author.Needs.{needs}
 use borrow.Author.Tests.{le-leb, lt-leb}
-use Rattle.linear_lent.specs.Lent.{stepOf}
-use Rattle.linear_lent.proofs.advance.Statement.{statement}
-use Rattle.linear_lent.proofs.advance.Tie as tie
+use Rattle.linear_steps.specs.Step.{stepOf}
+use Rattle.linear_steps.proofs.advance.Statement.{statement}
+use Rattle.linear_steps.proofs.advance.Tie as tie
 
 returns : tie.Need-returns
 unfolding stepOf
