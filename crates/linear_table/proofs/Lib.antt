@@ -5,3 +5,4 @@ pub mod Walk
 pub mod Item
 pub mod Cutting
 pub mod Made
+pub mod Determined
