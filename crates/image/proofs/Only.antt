@@ -6,14 +6,14 @@ use mathlib.Core.List.{List, [], _∷_}
 use mathlib.Core.Logic.{_⊎_, inl, inr, ⊎-elim}
 use native.Mathlib.Nat.{eq-or-lt-of-le}
 use native.Mathlib.Omega.{arith}
-use borrow.Author.Tests.{leb-true, le-leb, lt-leb}
+use borrow.Author.Tests.{le-leb, lt-leb}
 use lib.Dec.{leb}
 use Rattle.image.specs.Pick.{pick, both, every}
 use Rattle.image.specs.Node.{kindOf, endOf}
 use Rattle.image.specs.Digits.{familyOf, partAt, takes}
 use Rattle.image.specs.Forms.{FormsTree}
 use Rattle.image.proofs.Decide.{lt-or-ge}
-use Rattle.image.proofs.Every.{both-left, both-right, every-at}
+use Rattle.image.proofs.Every.{every-at}
 use Rattle.image.proofs.Digits.{family-past}
 use Rattle.image.proofs.Shape.{Child}
 use Rattle.image.proofs.Row.{Run, done, next, run-within, Either3, Rest, partsFrom, partsOf, shape, no-kind, Kid, Kids, none, some, kids-within}
@@ -170,16 +170,6 @@ aside-closed = refl
 statement-leads : leads isStatement inner ≡ true
 unfolding leads leadsAt rowTakes takesOnly anyTakes partsOf partsFrom partAt familyOf every
 statement-leads = refl
-
--- no kind of statement passes
-pub aside-not : (k : ℕ) → aside k ≡ true → isStatement k ≡ true → ⊥
-aside-not k a b =
-    let l = leb-true 24 k (both-left (leb 24 k) _ b) in
-    let h = leb-true k 28 (both-right (leb 24 k) _ b) in
-    let z : k < 32 = omega arith in
-    let c : both (leb 10 k) (leb k 23) ≡ true = simp (lt-leb 32 k z) at a in
-    let d = leb-true k 23 (both-right (leb 10 k) _ c) in
-    omega arith
 
 module _ (s : List ℕ) (n : ℕ) (T : FormsTree s n) where
   -- below a statement there are only Names and expressions

@@ -86,6 +86,3 @@ lent-shown {part} {b} {p} {f} W i g h =
     let u = W .shown .high in
     let v = past W i .1 in
     lent (W .image) part b (W .upto) f (treeOf W .end p) (W .shown) (omega arith) h v (λ q l m. nests (nodesOf (W .image)) (nodeCount (W .image)) (formed W) p q (omega arith) (omega arith) m)
-
-abbrev pub lent-below : {part : List ℕ} {b p f : ℕ} (W : View part b) → In part b p → p < f → f ≤ treeOf W .end p → View (slice part (16 * (f - b)) (16 * (treeOf W .end p - b))) f
-lent-below {part} {b} {p} {f} W i g h = record { image = W .image; upto = treeOf W .end p; shown = lent-shown W i g h }

@@ -29,7 +29,7 @@ use Rattle.rules.specs.Passes.{PassRules, resolving, accessing, linearit
 use Rattle.rules.specs.Names.{EqualNumbers}
 use Rattle.rules.specs.Spans.{Unjudged}
 use Rattle.rules.specs.Answers.{IsRefused, IsAdmitted, imageRefused, accepted, refusedAt, passAnswer, replyRefused, replied, ask, laid, listRefused, listHas, listAnswer, listBuffer, partAnswer, partWords, InTurn, lentRows, row, verdictRows}
-use Rattle.rules.specs.Report.{rest, passLine, recordLines, reportText}
+use Rattle.rules.specs.Report.{reportWords, rest, passLine, recordLines, reportText}
 
 -- of each pass; of each question about a name, with the fact that it asks for
 abbrev pub EachPass : (PassRules → Type 0) → Type 0
@@ -119,8 +119,8 @@ pub record Demand-3 : Type 0 where
       → (partAnswer (p .part) s ≡ listHas (length (ofPass p l))) × (partWords (p .part) s o ≡ laid o 0 (ofPass p l)))
   pub in-turn : InTurn
   pub text :
-      (s : List ℕ) → IsAdmitted s → (l : List Rec) → FullList (tree s) l → 3 * length l ≤ 32768
+      (s : List ℕ) → IsAdmitted s → (l : List Rec) → FullList (tree s) l → 3 * length l ≤ reportWords
       → reportText s ≡ passLines s (bytes "list" ++ (rest (length l ∷ []) ++ recordLines s l))
   pub text-short :
-      (s : List ℕ) → IsAdmitted s → (l : List Rec) → FullList (tree s) l → 32768 < 3 * length l
+      (s : List ℕ) → IsAdmitted s → (l : List Rec) → FullList (tree s) l → reportWords < 3 * length l
       → reportText s ≡ passLines s (bytes "list refused" ++ rest (9 ∷ []))

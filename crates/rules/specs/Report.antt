@@ -14,6 +14,10 @@ use Rattle.rules.specs.Linear.{linear}
 use Rattle.rules.specs.All.{offences}
 use Rattle.rules.specs.Answers.{Answer, passAnswer, spanFrom, spanTo, ListReply, listAnswer}
 
+-- so many words has the list's buffer
+abbrev pub reportWords : ℕ
+reportWords = 32768
+
 -- n in decimal, with no zeros in front: one digit, or those of n / 10 and then the last; 20 are enough for 64 bits
 unfoldable pub digits : ℕ → ℕ → List ℕ
 digits zero n = []
@@ -53,5 +57,5 @@ reportText s =
     (passLine (bytes "resolve") (passAnswer resolve s)
     ++ (passLine (bytes "access") (passAnswer access s)
     ++ (passLine (bytes "linear") (passAnswer linear s)
-    ++ listLines s (listAnswer s 32768))))
+    ++ listLines s (listAnswer s reportWords))))
     (bytes "image" ++ rest (refusal s ∷ []))
