@@ -153,8 +153,11 @@ ISONKAYPU_MUST_USE size_t isonkaypu_is_known_asset(
 
 /*
  * The full list: every offence of resolve, then of access, then of linear. A record is three words:
- * code, place, related node (0 where there is none). Returns 0, `count` is the number of records, and
- * they stand in `words` from its start; words past the last record are as they were.
+ * code, place, related node (0 where there is none). Related are, for 20, 21, 23, 25 and 27, the first
+ * earlier declaration of that name (23: of that signature), and for 62 the other use of the lot: where
+ * a Burns clause uses it already, the first counted occurrence, else the second.
+ * Returns 0, `count` is the number of records, and they stand in `words` from its start; words past
+ * the last record are as they were.
  * A buffer with fewer than three words for each offence gives 9, a broken image its refusal, 1 to 8:
  * then `count` is 0 and nothing was written to `words`.
  */

@@ -30,7 +30,7 @@ blank-all = record {
   size = length-replicate {A = ℕ} 1533 0;
   marks = λ r l. getD-replicate 1533 (3 * r) 0 0 (omega arith);
   counts = λ r l. getD-replicate 1533 (3 * r + 1) 0 0 (omega arith);
-  seconds = λ r l. getD-replicate 1533 (3 * r + 2) 0 0 (omega arith);
+  relateds = λ r l. getD-replicate 1533 (3 * r + 2) 0 0 (omega arith);
 }
 
 abbrev pub tables-of : {nodes : List ℕ} {all : AllWords} {words : Words} {reader : List Bool} (L : LookedWords nodes all)

@@ -13,11 +13,11 @@ use Rattle.image.specs.Pick.{pick}
 use Rattle.rules.specs.Sweep.{run, keep, has}
 use Rattle.rules.specs.Tree.{Tree, tree, param-let}
 use Rattle.rules.specs.Vocabulary.{alone, below}
-use Rattle.rules.specs.Linear.{isRow, marks, uses, second, judged, rowRule}
+use Rattle.rules.specs.Linear.{isRow, marks, uses, relatedUse, judged, rowRule}
 use Rattle.records.proofs.Sweep.{run-next, run-same}
 use Rattle.linear_parts.specs.Parts.{rowsOf}
 use Rattle.linear_tracked.specs.Rows.{Rows}
-use Rattle.linear_rows.specs.Tallies.{Tallied, Blank, marksAt, countAt, secondAt, judgedAt}
+use Rattle.linear_rows.specs.Tallies.{Tallied, Blank, marksAt, countAt, relatedAt, judgedAt}
 use Rattle.linear.specs.Seen.{rowMarks, rowUses}
 
 -- a range in which each number gives nothing, or what f gives of it, is f of the numbers that give something
@@ -66,12 +66,12 @@ module _ {s : List ℕ} (e : ℕ) {n : ℕ} {places first last tallies : List �
     pub row-count : countAt tallies r ≡ length (uses (tree s) e (getD (rowsOf e (tree s)) r 0))
     row-count = C .counts r few ∙ ap (λ (b : Bool). length (pick b (uses (tree s) e (getD (rowsOf e (tree s)) r 0)) [])) there
 
-    row-second : secondAt tallies r ≡ second (uses (tree s) e (getD (rowsOf e (tree s)) r 0))
-    row-second = C .seconds r few ∙ ap (λ (b : Bool). second (pick b (uses (tree s) e (getD (rowsOf e (tree s)) r 0)) [])) there
+    row-related : relatedAt tallies r ≡ relatedUse (marks (tree s) e (getD (rowsOf e (tree s)) r 0)) (uses (tree s) e (getD (rowsOf e (tree s)) r 0))
+    row-related = C .relateds r few ∙ ap (λ (b : Bool). relatedUse (pick b (marks (tree s) e (getD (rowsOf e (tree s)) r 0)) []) (pick b (uses (tree s) e (getD (rowsOf e (tree s)) r 0)) [])) there
 
     row-judged : judgedAt places tallies r ≡ rowRule (tree s) e (getD (rowsOf e (tree s)) r 0)
     unfolding rowRule judged
-    row-judged = rw (R .place-of r l, row-marks, row-count, row-second) refl
+    row-judged = rw (R .place-of r l, row-marks, row-count, row-related) refl
 
   -- 61 and 62, rows in order
   pub rows-judged : run (judgedAt places tallies) 0 n ≡ below (tree s) param-let e (λ x. keep (isRow (tree s) x) (rowRule (tree s) e) x)
@@ -85,7 +85,7 @@ module _ {s : List ℕ} (e : ℕ) {n : ℕ} {places first last tallies : List �
     size = z ∙ C .size;
     marks = λ r l. cell (3 * r) r (omega arith) (omega arith) (λ b. C .marks r l ∙ ap (λ (c : Bool). length (pick c (marks (tree s) e (getD (rowsOf e (tree s)) r 0)) [])) b);
     counts = λ r l. cell (3 * r + 1) r (omega arith) (omega arith) (λ b. C .counts r l ∙ ap (λ (c : Bool). length (pick c (uses (tree s) e (getD (rowsOf e (tree s)) r 0)) [])) b);
-    seconds = λ r l. cell (3 * r + 2) r (omega arith) (omega arith) (λ b. C .seconds r l ∙ ap (λ (c : Bool). second (pick c (uses (tree s) e (getD (rowsOf e (tree s)) r 0)) [])) b);
+    relateds = λ r l. cell (3 * r + 2) r (omega arith) (omega arith) (λ b. C .relateds r l ∙ ap (λ (c : Bool). relatedUse (pick c (marks (tree s) e (getD (rowsOf e (tree s)) r 0)) []) (pick c (uses (tree s) e (getD (rowsOf e (tree s)) r 0)) [])) b);
   }
     where
       cell : (i r : ℕ) → 3 * r ≤ i → i < 3 * r + 3 → (ltb r (length (rowsOf e (tree s))) ≡ false → getD tallies i 0 ≡ 0) → getD tallies′ i 0 ≡ 0

@@ -1,29 +1,19 @@
 -- What is lent on within one entry, with its rows noted: to the burn marks, to the counted occurrences; and what the tallies hold then.
 use Prim.Native.Nat.{ℕ, _<_, _≤_}
-use mathlib.Core.Path.{_≡_, ap, _∙_}
 use mathlib.Core.Bool.{Bool}
 use mathlib.Core.List.{List}
 use native.Mathlib.Omega.{arith}
-use lib.ListN.{length}
 use Rattle.rules.specs.Tree.{Tree}
-use Rattle.rules.specs.Linear.{second}
 use Rattle.nodes.specs.Shown.{Shown, treeOf}
 use Rattle.nodes.specs.First.{Starts}
 use Rattle.linear_occurrences.proofs.Entry.{counting-of}
 use Rattle.linear_parts.specs.declared.Words.{Words}
 use Rattle.linear_parts.specs.Parts.{rowsOf, firstRow, lastRow}
 use Rattle.linear_rows.specs.Tallies.{Tallied}
+use Rattle.linear_rows.proofs.Tallied.{tallied-as}
 use Rattle.linear_uses.specs.Uses.{Unburned, Using, burnsOn, usesOn}
 use Rattle.linear.specs.Seen.{RowsNoted, rowMarks, rowUses}
 use Rattle.linear.proofs.Select.{first-few, last-few, marks-on, uses-on}
-
-tallied-as : {M M′ U U′ : ℕ → List ℕ} {s : List ℕ} → ((r : ℕ) → M r ≡ M′ r) → ((r : ℕ) → U r ≡ U′ r) → Tallied M U s → Tallied M′ U′ s
-tallied-as m u C = record {
-  size = C .size;
-  marks = λ r l. C .marks r l ∙ ap length (m r);
-  counts = λ r l. C .counts r l ∙ ap length (u r);
-  seconds = λ r l. C .seconds r l ∙ ap second (u r);
-}
 
 module _ {nodes : List ℕ} {words : Words} {e : ℕ} {reader burned : List Bool} {first last tallies : List ℕ} (T : RowsNoted nodes words e reader burned first last tallies) where
   abbrev t : Tree

@@ -16,7 +16,7 @@ use Rattle.image.proofs.Verdict.{admission-no}
 use Rattle.rules.specs.Sweep.{run, keep, has}
 use Rattle.rules.specs.Tree.{Tree, tree, entry as entries, param-let}
 use Rattle.rules.specs.Vocabulary.{Rec, rec, only, below}
-use Rattle.rules.specs.Linear.{isRow, placeOf, marks, uses, second, judged, rowRule, linearEntry, linear}
+use Rattle.rules.specs.Linear.{isRow, placeOf, marks, uses, relatedUse, judged, rowRule, linearEntry, linear}
 use Rattle.rules.specs.Answers as rules
 use Rattle.rules.specs.Passes as passes
 use Rattle.rules.proofs.Answers.{refusal-most}
@@ -162,7 +162,7 @@ module _ (s : List ℕ) where
   row-found e x h f =
       let n = length (marks (tree s) e x) + length (uses (tree s) e x) in
       let p = placeOf (tree s) x in
-      ap (λ (b : Bool). pick b f (pick (eqb n 0) (foundAt 61 p) (pick (ltb 1 n) (foundAt 62 p) f))) (ne-eqb p 0 (place-some (tree s) x h)) ∙ by-sum n p (second (uses (tree s) e x)) f
+      ap (λ (b : Bool). pick b f (pick (eqb n 0) (foundAt 61 p) (pick (ltb 1 n) (foundAt 62 p) f))) (ne-eqb p 0 (place-some (tree s) x h)) ∙ by-sum n p (relatedUse (marks (tree s) e x) (uses (tree s) e x)) f
 
   node-found : (e i : ℕ) → 0 < i → (f : Found) (k b : Bool) → isRow (tree s) i ≡ b → judgeRows (keep k (λ x. keep (isRow (tree s) x) (oneRow s e) x) i) f ≡ found (keep k (λ x. keep (isRow (tree s) x) (rowRule (tree s) e) x) i) f
   unfolding keep judgeRows found

@@ -9,16 +9,16 @@ ghost use Rattle.rules.specs.Vocabulary.{rec, only};
 ghost use Rattle.rules.specs.Sweep.{run};
 ghost use Rattle.records.specs.Words.{old, new};
 ghost use Rattle.records.specs.Records.{Adds, AsksAt};
-ghost use Rattle.linear_rows.specs.Tallies.{marksAt, countAt, secondAt, judgedAt, Blanks};
+ghost use Rattle.linear_rows.specs.Tallies.{marksAt, countAt, relatedAt, judgedAt, Blanks};
 
-// Three cells for each of the at most 511 rows of an entry: burn marks, counted occurrences, and the second of these.
+// Three cells for each of the at most 511 rows of an entry: burn marks, counted occurrences, and that one of these which 62 is related to.
 pub type Tallies = [u16; 1533];
 
 pub const MARKS: usize = 0;
 
 pub const COUNT: usize = 1;
 
-pub const SECOND: usize = 2;
+pub const RELATED: usize = 2;
 
 fn wide(x: u16) -> usize
     ensures { λ r. ⌜ (r ≡ x) × (r < 65536) ⌝ }
@@ -42,15 +42,15 @@ fn is_unused(tallies: &Tallies, row: usize) -> bool
     cell(tallies, row, MARKS) + cell(tallies, row, COUNT) == 0
 }
 
-// 62 at a row: over one, with the second counted occurrence.
+// 62 at a row: over one, with its related word.
 fn used_twice(tallies: &Tallies, row: usize) -> Hit
     requires { ⌜ row < 511 ⌝ }
-    ensures { λ r. ⌜ ((p : ℕ) → AsksAt (λ (_ : Unit {0}). only (ltb 1 (marksAt (old tallies) row + countAt (old tallies) row)) (rec 62 p (secondAt (old tallies) row))) 62 p r) ⌝ }
+    ensures { λ r. ⌜ ((p : ℕ) → AsksAt (λ (_ : Unit {0}). only (ltb 1 (marksAt (old tallies) row + countAt (old tallies) row)) (rec 62 p (relatedAt (old tallies) row))) 62 p r) ⌝ }
 {
     if cell(tallies, row, MARKS) + cell(tallies, row, COUNT) <= 1 {
         return Hit::Nothing;
     }
-    Hit::At(tallies[3 * row + SECOND])
+    Hit::At(tallies[3 * row + RELATED])
 }
 
 // The cells of a row are blank again.
@@ -60,7 +60,7 @@ pub fn blank(tallies: &mut Tallies, row: usize)
 {
     tallies[3 * row + MARKS] = 0;
     tallies[3 * row + COUNT] = 0;
-    tallies[3 * row + SECOND] = 0;
+    tallies[3 * row + RELATED] = 0;
 }
 
 // 61 or 62 at a row, which is blank again afterwards.

@@ -1,6 +1,6 @@
 -- The burn mark of a parameter: which it is, and what it adds to the tallies.
 use Prim.Native.Nat.{ℕ, _+_, _<_}
-use mathlib.Core.Path.{_≡_, ap, _∙_, sym, subst}
+use mathlib.Core.Path.{_≡_, refl, ap, _∙_, sym, subst}
 use mathlib.Core.Bool.{Bool, true, false, true≢false}
 use mathlib.Core.List.{List, [], _++_, append-nil}
 use Rattle.rules.specs.Sweep.{keep}
@@ -17,8 +17,8 @@ use Rattle.model.specs.Assets.{Assets, Inside}
 use Rattle.model.proofs.Inner.{inner-none, inner-one}
 use Rattle.linear_parts.proofs.Lists.{tells-self}
 use Rattle.linear_rows.specs.Tallies.{Tallied}
+use Rattle.linear_rows.proofs.Tallied.{tallied-as}
 use Rattle.linear_uses.specs.Uses.{onRow, burnAt, burnedIn, Burning, Unburned}
-use Rattle.linear_uses.proofs.Tally.{tally-as}
 
 -- the numbers that the names inside types are found by
 abbrev pub assets-of : {nodes : List ℕ} {e asset : ℕ} {burned : List Bool} {rows : List ℕ} → Burning nodes e asset burned rows → Assets nodes asset
@@ -48,15 +48,15 @@ module _ {nodes : List ℕ} {asset r : ℕ} (A : Assets nodes asset) (e y : ℕ)
 burn-here : (t : Tree) (e : ℕ) (F : List ℕ → ℕ) (r y : ℕ) → t .kind y ≡ 10 → burnAt t e F r y ≡ keep (isBurned t e y) (onRow F r (t .text (y + 1))) y
 burn-here t e F r y k = keep-one _ y (has-one (t .kind y) 10 k)
 
-module _ (t : Tree) (e : ℕ) (F : List ℕ → ℕ) (y : ℕ) (M U : ℕ → List ℕ) {s : List ℕ} where
-  nothing : ((r : ℕ) → burnAt t e F r y ≡ []) → Tallied M U s → Tallied (λ r. M r ++ burnAt t e F r y) U s
-  nothing z T = tally-as (λ r. sym (ap (λ (m : List ℕ). M r ++ m) (z r) ∙ append-nil (M r))) T
+module _ (t : Tree) (e : ℕ) (F : List ℕ → ℕ) (y : ℕ) (M : ℕ → List ℕ) {s : List ℕ} where
+  nothing : ((r : ℕ) → burnAt t e F r y ≡ []) → Tallied M (λ r. []) s → Tallied (λ r. M r ++ burnAt t e F r y) (λ r. []) s
+  nothing z T = tallied-as (λ r. sym (ap (λ (m : List ℕ). M r ++ m) (z r) ∙ append-nil (M r))) (λ r. refl) T
 
-  pub burn-other : (t .kind y ≡ 10 → ⊥) → Tallied M U s → Tallied (λ r. M r ++ burnAt t e F r y) U s
+  pub burn-other : (t .kind y ≡ 10 → ⊥) → Tallied M (λ r. []) s → Tallied (λ r. M r ++ burnAt t e F r y) (λ r. []) s
   burn-other n = nothing (λ r. keep-none _ y (has-not (t .kind y) 10 n))
 
-  pub burn-not : t .kind y ≡ 10 → isBurned t e y ≡ false → Tallied M U s → Tallied (λ r. M r ++ burnAt t e F r y) U s
+  pub burn-not : t .kind y ≡ 10 → isBurned t e y ≡ false → Tallied M (λ r. []) s → Tallied (λ r. M r ++ burnAt t e F r y) (λ r. []) s
   burn-not k b = nothing (λ r. burn-here t e F r y k ∙ keep-none _ y b)
 
-  pub burn-so : t .kind y ≡ 10 → isBurned t e y ≡ true → Tallied (λ r. M r ++ onRow F r (t .text (y + 1)) y) U s → Tallied (λ r. M r ++ burnAt t e F r y) U s
-  burn-so k b T = tally-as (λ r. sym (ap (λ (m : List ℕ). M r ++ m) (burn-here t e F r y k ∙ keep-one _ y b))) T
+  pub burn-so : t .kind y ≡ 10 → isBurned t e y ≡ true → Tallied (λ r. M r ++ onRow F r (t .text (y + 1)) y) (λ r. []) s → Tallied (λ r. M r ++ burnAt t e F r y) (λ r. []) s
+  burn-so k b T = tallied-as (λ r. sym (ap (λ (m : List ℕ). M r ++ m) (burn-here t e F r y k ∙ keep-one _ y b))) (λ r. refl) T

@@ -1,6 +1,6 @@
 -- The invariant of the walk over the head of an entry that puts the burn marks on the rows.
 use Prim.Native.Nat.{ℕ, suc, _+_, _-_, _<_, _≤_}
-use mathlib.Core.Path.{_≡_, ap, _∙_, sym}
+use mathlib.Core.Path.{_≡_, refl, ap, _∙_, sym}
 use mathlib.Core.Bool.{Bool, false}
 use mathlib.Core.List.{List, [], _++_}
 use native.Mathlib.Nat.{sub-self}
@@ -16,8 +16,9 @@ use Rattle.nodes.specs.Shown.{treeOf}
 use Rattle.nodes.specs.First.{Until}
 use Rattle.nodes.proofs.Until.{one-end, until-rest}
 use Rattle.linear_rows.specs.Tallies.{Tallied}
+use Rattle.linear_rows.proofs.Tallied.{tallied-as}
 use Rattle.linear_uses.specs.Uses.{SpareMarks, burnAt, burnsOn, Burning}
-use Rattle.linear_uses.proofs.Tally.{tally-as, keep-few, run-few, tally-spare}
+use Rattle.linear_uses.proofs.Tally.{keep-few, run-few, tally-spare}
 
 -- a node adds one mark at most
 burn-few : (t : Tree) (e : ℕ) (F : List ℕ → ℕ) (r y : ℕ) → length (burnAt t e F r y) ≤ 1
@@ -34,7 +35,7 @@ module _ {nodes : List ℕ} {e asset : ℕ} {burned : List Bool} {rows : List �
   burnt-starts l t = record {
     low = omega arith;
     high = l;
-    tallied = λ T. tally-as (λ r. sym (ap (run (burnAt (treeOf (T .on-rows .view)) e (T .on-rows .row-of) r) (e + 1)) (sub-self (e + 1)) ∙ run-none _ (e + 1))) t;
+    tallied = λ T. tallied-as (λ r. sym (ap (run (burnAt (treeOf (T .on-rows .view)) e (T .on-rows .row-of) r) (e + 1)) (sub-self (e + 1)) ∙ run-none _ (e + 1))) (λ r. refl) t;
   }
 
   pub burnt-spare : {s : List ℕ} {p : ℕ} → Burnt nodes e asset burned rows to s p → to ≤ 2048 → Burning nodes e asset burned rows → SpareMarks s
@@ -48,12 +49,12 @@ module _ {nodes : List ℕ} {e asset : ℕ} {burned : List Bool} {rows : List �
   -- the next child
   pub burnt-on : {s s′ : List ℕ} {p q : ℕ} → Burnt nodes e asset burned rows to s p → p < q → q ≤ to
       → ((T : Burning nodes e asset burned rows) (i : ℕ) → p < i → i < q → has (treeOf (T .on-rows .view) .kind i) param ≡ false)
-      → ((T : Burning nodes e asset burned rows) (M U : ℕ → List ℕ) → Tallied M U s → Tallied (λ r. M r ++ burnAt (treeOf (T .on-rows .view)) e (T .on-rows .row-of) r p) U s′)
+      → ((T : Burning nodes e asset burned rows) (M : ℕ → List ℕ) → Tallied M (λ r. []) s → Tallied (λ r. M r ++ burnAt (treeOf (T .on-rows .view)) e (T .on-rows .row-of) r p) (λ r. []) s′)
       → Burnt nodes e asset burned rows to s′ q
   burnt-on {p = p} {q = q} B l h z G = record {
     low = let i = B .low in omega arith;
     high = h;
-    tallied = λ T. tally-as (λ r. sym (run-on (burnAt (treeOf (T .on-rows .view)) e (T .on-rows .row-of) r) (e + 1) p q (B .low) l (λ i a b. keep-none _ i (z T i a b)))) (G T _ _ (B .tallied T));
+    tallied = λ T. tallied-as (λ r. sym (run-on (burnAt (treeOf (T .on-rows .view)) e (T .on-rows .row-of) r) (e + 1) p q (B .low) l (λ i a b. keep-none _ i (z T i a b)))) (λ r. refl) (G T _ (B .tallied T));
   }
 
   -- no parameter stands behind the head
@@ -65,6 +66,7 @@ module _ {nodes : List ℕ} {e asset : ℕ} {burned : List Bool} {rows : List �
       let d = one-end N (T .on-rows .view) in
       let y : e + 1 ≡ suc e = omega arith in
       rw y at
-      (tally-as
+      (tallied-as
       (λ r. sym (run-sooner (burnAt (treeOf (T .on-rows .view)) e (T .on-rows .row-of) r) (e + 1) p (treeOf (T .on-rows .view) .end e) (B .low) (omega arith) (λ j a c. keep-none _ j (until-rest N (T .on-rows .view) j (omega arith) (omega arith)))))
+      (λ r. refl)
       (B .tallied T))

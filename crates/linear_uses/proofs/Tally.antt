@@ -1,6 +1,6 @@
 -- The tallies of the rows with one more mark, and the room in their cells.
 use Prim.Native.Nat.{ℕ, zero, suc, _+_, _*_, _-_, _<_, _≤_}
-use mathlib.Core.Path.{_≡_, ap, _∙_, sym}
+use mathlib.Core.Path.{_≡_, refl, ap, _∙_, sym}
 use mathlib.Core.Bool.{Bool, true, false}
 use mathlib.Core.List.{List, [], _∷_, _++_, append-nil}
 use mathlib.Core.Logic.{⊎-elim}
@@ -13,11 +13,8 @@ use Rattle.image.proofs.Decide.{eq-or-ne}
 use Rattle.rules.specs.Sweep.{keep, run}
 use Rattle.rules.specs.Vocabulary.{alone}
 use Rattle.linear_rows.specs.Tallies.{Tallied}
+use Rattle.linear_rows.proofs.Tallied.{tallied-as, related-none}
 use Rattle.linear_uses.specs.Uses.{SpareMarks}
-
--- the same marks, said otherwise
-pub tally-as : {M N U : ℕ → List ℕ} {s : List ℕ} → ((r : ℕ) → M r ≡ N r) → Tallied M U s → Tallied N U s
-tally-as e t = record { size = t .size; marks = λ r l. t .marks r l ∙ ap length (e r); counts = t .counts; seconds = t .seconds }
 
 -- one node more, which the test keeps or leaves out
 kept : {b : Bool} (m : List ℕ) (x : ℕ) → b ≡ true → length (m ++ keep b alone x) ≡ length m + 1
@@ -28,13 +25,13 @@ left-out : {b : Bool} (m : List ℕ) (x : ℕ) → b ≡ false → m ++ keep b a
 unfolding keep
 left-out m x e = rw e (append-nil m)
 
-module _ {M U : ℕ → List ℕ} {s : List ℕ} (v x : ℕ) (t : Tallied M U s) where
+module _ {M : ℕ → List ℕ} {s : List ℕ} (v x : ℕ) (t : Tallied M (λ r. []) s) where
   -- the table notes no row
-  pub tally-none : v ≡ 0 → Tallied (λ r. M r ++ keep (eqb v (r + 1)) alone x) U s
-  tally-none z = tally-as (λ r. sym (left-out (M r) x (ne-eqb v (r + 1) (λ e. omega arith)))) t
+  pub tally-none : v ≡ 0 → Tallied (λ r. M r ++ keep (eqb v (r + 1)) alone x) (λ r. []) s
+  tally-none z = tallied-as (λ r. sym (left-out (M r) x (ne-eqb v (r + 1) (λ e. omega arith)))) (λ r. refl) t
 
   -- it notes row v - 1, which has one mark more
-  pub tally-mark : (i : ℕ) → 0 < v → v ≤ 511 → i ≡ 3 * (v - 1) → Tallied (λ r. M r ++ keep (eqb v (r + 1)) alone x) U (set s i (getD s i 0 + 1))
+  pub tally-mark : (i : ℕ) → 0 < v → v ≤ 511 → i ≡ 3 * (v - 1) → Tallied (λ r. M r ++ keep (eqb v (r + 1)) alone x) (λ r. []) (set s i (getD s i 0 + 1))
   tally-mark i z f e = record {
     size = length-set s i _ ∙ t .size;
     marks = λ r l.
@@ -47,7 +44,7 @@ module _ {M U : ℕ → List ℕ} {s : List ℕ} (v x : ℕ) (t : Tallied M U s)
         getD-set-other s i (3 * r) _ 0 (λ q. d (omega arith)) ∙ t .marks r l ∙ sym (ap length (left-out (M r) x (ne-eqb v (r + 1) d))))
         (eq-or-ne v (r + 1));
     counts = λ r l. getD-set-other s i (3 * r + 1) _ 0 (λ q. omega arith) ∙ t .counts r l;
-    seconds = λ r l. getD-set-other s i (3 * r + 2) _ 0 (λ q. omega arith) ∙ t .seconds r l;
+    relateds = λ r l. getD-set-other s i (3 * r + 2) _ 0 (λ q. omega arith) ∙ t .relateds r l ∙ related-none (M r) ∙ sym (related-none (M r ++ keep (eqb v (r + 1)) alone x));
   }
 
 -- at most one a node leaves room

@@ -1,7 +1,7 @@
 -- Burn marks and counted occurrences on the rows of an entry ("Linear" of document 01): where each one goes, and what is lent to put it there.
 use Prim.Native.Nat.{ℕ, _+_, _-_, _<_, _≤_}
 use mathlib.Core.Bool.{Bool, false}
-use mathlib.Core.List.{List, _++_}
+use mathlib.Core.List.{List, [], _++_}
 use lib.Dec.{eqb}
 use Rattle.image.specs.Maxima.{maxRows}
 use Rattle.rules.specs.Sweep.{run, keep, has}
@@ -72,11 +72,12 @@ pub record Using (nodes : List ℕ) (base : ℕ) (reader : List Bool) (rows : Li
   pub noted : Places (counting .view .image) row-of rows
   pub few : (w : List ℕ) → row-of w ≤ maxRows
 
--- a function that is lent the rows puts x on the row that the table notes for a word, as a mark or as a counted occurrence
+-- a function that is lent the rows puts x on the row that the table notes for a word, as a mark, while there is no occurrence, or as a
+-- counted occurrence
 abbrev pub Marks-one : {nodes : List ℕ} {base : ℕ} {rows : List ℕ} → OnRows nodes base rows → ℕ → Lent (List ℕ) → Type 0
 Marks-one T p tallies =
-    (M U : ℕ → List ℕ) (x : ℕ) → Tallied M U (old tallies)
-    → Tallied (λ r. M r ++ onRow (T .row-of) r (treeOf (T .view) .text p) x) U (new tallies)
+    (M : ℕ → List ℕ) (x : ℕ) → Tallied M (λ r. []) (old tallies)
+    → Tallied (λ r. M r ++ onRow (T .row-of) r (treeOf (T .view) .text p) x) (λ r. []) (new tallies)
 
 abbrev pub Uses-one : {nodes : List ℕ} {base : ℕ} {rows : List ℕ} → OnRows nodes base rows → Bool → ℕ → Lent (List ℕ) → Type 0
 Uses-one T hit p tallies =

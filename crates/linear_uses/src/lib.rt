@@ -1,8 +1,8 @@
-// Marks and occurrences on the tracked rows: "Burn mark" and "Counted occurrences" of document 01.
+// Marks and occurrences on the tracked rows: "Burn mark" and "Counted occurrences" of document 01, and which occurrence 62 is related to (E4 of document 02).
 use linear_occurrences::Flags;
 use linear_rows::COUNT;
 use linear_rows::MARKS;
-use linear_rows::SECOND;
+use linear_rows::RELATED;
 use linear_rows::Tallies;
 use nodes::BURNS;
 use nodes::Cursor;
@@ -13,13 +13,14 @@ ghost use mathlib.Core.Path.{_≡_};
 ghost use mathlib.Core.Bool.{Bool, true, false};
 ghost use mathlib.Core.List.{List, [], _++_};
 ghost use Prim.Native.Nat.{ℕ, _+_, _*_, _<_};
+ghost use lib.Dec.{eqb};
 ghost use lib.ListN.{getD, set};
 ghost use Rattle.records.specs.Words.{old, new};
 ghost use Rattle.nodes.specs.Shown.{In, Worded, treeOf};
 ghost use Rattle.nodes.specs.Marks.{Marks};
 ghost use Rattle.nodes.specs.First.{Head};
 ghost use Rattle.linear_occurrences.specs.Counted.{Clear};
-ghost use Rattle.linear_rows.specs.Tallies.{Tallied, Blank};
+ghost use Rattle.linear_rows.specs.Tallies.{marksAt, countAt, relatedTurn, Tallied, Blank};
 ghost use Rattle.linear_uses.specs.Uses.{SpareMarks, SpareCounts, OnRows, Burning, Unburned, Using, Marks-one, Uses-one, burnAt, burnsOn, usesOn};
 
 // One more in a cell of a row.
@@ -54,8 +55,8 @@ fn burn_mark(
     tallies: &mut Tallies,
 )
     requires { ⌜ Burning (now nodes) entry asset (now burned) (now rows) × In (now nodes) 0 p × SpareMarks (now tallies) ⌝ }
-    ensures { λ _. ⌜ ((T : Burning (old nodes) entry asset (old burned) (old rows)) (M U : ℕ → List ℕ) → Tallied M U (old tallies)
-        → Tallied (λ r. M r ++ burnAt (treeOf (T .on-rows .view)) entry (T .on-rows .row-of) r p) U (new tallies)) ⌝ }
+    ensures { λ _. ⌜ ((T : Burning (old nodes) entry asset (old burned) (old rows)) (M : ℕ → List ℕ) → Tallied M (λ r. []) (old tallies)
+        → Tallied (λ r. M r ++ burnAt (treeOf (T .on-rows .view)) entry (T .on-rows .row-of) r p) (λ r. []) (new tallies)) ⌝ }
 {
     if nodes::kind(nodes, 0, p) != PARAM {
         return;
@@ -112,7 +113,19 @@ pub fn mark_burned(
     nodes::mark_parts(BURNS, nodes, entry, to, false, burned);
 }
 
-// A counted occurrence, if p is one, on the row that the table notes for its word, and the second one of that row.
+// Whether the occurrence that was counted last on a row is the one that 62 is related to: the first where the row has a burn mark, the second where it has none. All marks are there before the first occurrence.
+fn is_related(tallies: &Tallies, row: usize) -> bool
+    requires { ⌜ row < 511 ⌝ }
+    ensures { λ r. ⌜ r ≡ eqb (countAt (old tallies) row) (relatedTurn (marksAt (old tallies) row)) ⌝ }
+{
+    let count = linear_rows::cell(tallies, row, COUNT);
+    if linear_rows::cell(tallies, row, MARKS) == 0 {
+        return count == 2;
+    }
+    count == 1
+}
+
+// A counted occurrence, if p is one, on the row that the table notes for its word, and the related word of that row.
 fn use_row(hit: bool, nodes: &[u8], base: usize, p: usize, rows: &Places, tallies: &mut Tallies)
     requires { ⌜ OnRows (now nodes) base (now rows) × In (now nodes) base p × (hit ≡ true → Worded (now nodes) base p) × SpareCounts (now tallies) ⌝ }
     ensures { λ _. ⌜ ((T : OnRows (old nodes) base (old rows)) → Uses-one T hit p tallies) ⌝ }
@@ -125,8 +138,8 @@ fn use_row(hit: bool, nodes: &[u8], base: usize, p: usize, rows: &Places, tallie
         return;
     }
     add_one(tallies, row - 1, COUNT);
-    if linear_rows::cell(tallies, row - 1, COUNT) == 2 {
-        tallies[3 * (row - 1) + SECOND] = p as u16;
+    if is_related(tallies, row - 1) {
+        tallies[3 * (row - 1) + RELATED] = p as u16;
     }
 }
 

@@ -10,7 +10,7 @@ use Rattle.rules.specs.Tree.{Tree, theName, typeOf, valueOf, assignedOf,
 use Rattle.rules.specs.Words.{Q-Asset, mint, split, readers}
 use Rattle.rules.specs.Record.{Rec, rec}
 use Rattle.rules.specs.Preorder.{below}
-use Rattle.rules.specs.Vocabulary.{placeOf, second}
+use Rattle.rules.specs.Vocabulary.{placeOf, relatedUse}
 use Rattle.rules.specs.ComputeVocabulary.{only, alone, someBelow, someCall, someArgument, named, atBottom, isIdent, isField, typed}
 use Rattle.rules.specs.ComputeModel.{inner}
 
@@ -63,7 +63,7 @@ uses t e x =
 unfoldable pub judged : ℕ → List ℕ → List ℕ → List Rec
 judged p m l =
     only (eqb (length m + length l) 0) (rec 61 p 0)
-    ++ only (ltb 1 (length m + length l)) (rec 62 p (second l))
+    ++ only (ltb 1 (length m + length l)) (rec 62 p (relatedUse m l))
 
 unfoldable pub rowRule : Tree → ℕ → ℕ → List Rec
 rowRule t e x = judged (placeOf t x) (marks t e x) (uses t e x)

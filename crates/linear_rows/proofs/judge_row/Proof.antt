@@ -1,6 +1,6 @@
 -- `judge_row` meets its contract: 61, then 62, and the row is blank again.
 use borrow.Author.Needs.{needs}
-use Rattle.linear_rows.specs.Tallies.{marksAt, countAt, secondAt}
+use Rattle.linear_rows.specs.Tallies.{marksAt, countAt, relatedAt}
 use Rattle.linear_rows.proofs.Judged.{row-judged}
 use Rattle.linear_rows.proofs.judge_row.Statement.{statement}
 use Rattle.linear_rows.proofs.judge_row.Tie as tie
@@ -11,7 +11,7 @@ returns c =
     let e = h .before .before .before .before .before .before in
     let s = e .before .before .before .before .before .args .tallies .now in
     let r = e .before .before .before .before .before .args .row in (
-      row-judged (marksAt s r) (countAt s r) (secondAt s r) (e .is-unused .result) (h .used-twice .result) (e .before .before .wide .ensures .0) (e .is-unused .ensures) (h .used-twice .ensures (e .before .before .wide .result))
+      row-judged (marksAt s r) (countAt s r) (relatedAt s r) (e .is-unused .result) (h .used-twice .result) (e .before .before .wide .ensures .0) (e .is-unused .ensures) (h .used-twice .ensures (e .before .before .wide .result))
           (h .before .before .before .before .emit-if .ensures) (c .before .before .before .before .emit-hit .ensures),
       c .blank .ensures,
     )

@@ -1,4 +1,4 @@
--- `used_twice` meets its contract: not over one, or the second occurrence.
+-- `used_twice` meets its contract: not over one, or the related word.
 use borrow.Author.Needs.{needs}
 use Rattle.linear_rows.proofs.Judged.{marks-cell, once, twice}
 use Rattle.linear_rows.proofs.used_twice.Statement.{statement}

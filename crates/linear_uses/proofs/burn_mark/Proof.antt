@@ -36,15 +36,15 @@ asked c T =
     ∙ sym (c .is-marked .ensures W (burnedIn (treeOf W) (c .before .before .before .before .before .before .args .entry)) (T .burned-marks))
 
 returns : tie.Need-returns
-returns c = λ T M U t. burn-other (treeOf (T .on-rows .view)) (c .before .before .before .args .entry) (T .on-rows .row-of) (c .before .before .before .args .p) M U (λ e. c .if1 .taken (c .before .kind .ensures (T .on-rows .view) ∙ e)) t
+returns c = λ T M t. burn-other (treeOf (T .on-rows .view)) (c .before .before .before .args .entry) (T .on-rows .row-of) (c .before .before .before .args .p) M (λ e. c .if1 .taken (c .before .kind .ensures (T .on-rows .view) ∙ e)) t
 
 inner-of-requires : tie.Need-inner-of-requires
 inner-of-requires c κs = (assets-of (c .before .before .before .pre .0), type-of c (c .before .before .before .pre .0 .on-rows .view) .0)
 
 returns-2 : tie.Need-returns-2
-returns-2 c = λ T M U t.
+returns-2 c = λ T M t.
     let W = T .on-rows .view in
-    burn-not (treeOf W) (c .before .before .before .before .before .args .entry) (T .on-rows .row-of) (c .before .before .before .before .before .args .p) M U (is-param (c .before .before) W) (burned-none (assets-of T) (c .before .before .before .before .before .args .entry) (c .before .before .before .before .before .args .p) (type-of (c .before .before) W .1) (c .before .inner-of .ensures (assets-of T)) (c .if2 .taken)) t
+    burn-not (treeOf W) (c .before .before .before .before .before .args .entry) (T .on-rows .row-of) (c .before .before .before .before .before .args .p) M (is-param (c .before .before) W) (burned-none (assets-of T) (c .before .before .before .before .before .args .entry) (c .before .before .before .before .before .args .p) (type-of (c .before .before) W .1) (c .before .inner-of .ensures (assets-of T)) (c .if2 .taken)) t
 
 mark-row-requires : tie.Need-mark-row-requires
 unfolding has
@@ -54,14 +54,14 @@ mark-row-requires c κs =
     (P .0 .on-rows, named-at W (P .1) (omega arith, refl) (is-param (c .before .before .before .before .before) W), P .2)
 
 returns-3 : tie.Need-returns-3
-returns-3 c = λ T M U t.
+returns-3 c = λ T M t.
     let W = T .on-rows .view in
-    burn-so (treeOf W) (c .before .before .before .before .before .before .before .before .before .args .entry) (T .on-rows .row-of) (c .before .before .before .before .before .before .before .before .before .args .p) M U (is-param (c .before .before .before .before .before .before) W) (asked (c .before .before .before) T ∙ c .before .before .if3 .taken) (c .mark-row .ensures (T .on-rows) M U (c .before .before .before .before .before .before .before .before .before .args .p) t)
+    burn-so (treeOf W) (c .before .before .before .before .before .before .before .before .before .args .entry) (T .on-rows .row-of) (c .before .before .before .before .before .before .before .before .before .args .p) M (is-param (c .before .before .before .before .before .before) W) (asked (c .before .before .before) T ∙ c .before .before .if3 .taken) (c .mark-row .ensures (T .on-rows) M (c .before .before .before .before .before .before .before .before .before .args .p) t)
 
 returns-4 : tie.Need-returns-4
-returns-4 c = λ T M U t.
+returns-4 c = λ T M t.
     let W = T .on-rows .view in
-    burn-not (treeOf W) (c .before .before .before .before .before .before .before .args .entry) (T .on-rows .row-of) (c .before .before .before .before .before .before .before .args .p) M U (is-param (c .before .before .before .before) W) (asked (c .before) T ∙ c .if3 .left) t
+    burn-not (treeOf W) (c .before .before .before .before .before .before .before .args .entry) (T .on-rows .row-of) (c .before .before .before .before .before .before .before .args .p) M (is-param (c .before .before .before .before) W) (asked (c .before) T ∙ c .if3 .left) t
 
 pub burn-mark-spec : {M : Type 1} → statement M
 burn-mark-spec = tie.close (tie.spec (λ c κs. search needs) returns (λ c. search needs) inner-of-requires returns-2 (λ c κs. is-name c) (λ c. search needs) mark-row-requires returns-3 returns-4)

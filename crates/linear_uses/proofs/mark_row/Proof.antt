@@ -17,7 +17,7 @@ row-is c T =
     (e, omega (arith, n), omega arith)
 
 returns : tie.Need-returns
-returns c = λ T M U x t. tally-none _ x t (sym (c .before .at .ensures .1 (T .view) (T .row-of) (T .noted)) ∙ c .if1 .taken)
+returns c = λ T M x t. tally-none _ x t (sym (c .before .at .ensures .1 (T .view) (T .row-of) (T .noted)) ∙ c .if1 .taken)
 
 add-one-requires : tie.Need-add-one-requires
 add-one-requires c κs =
@@ -28,7 +28,7 @@ add-one-requires c κs =
     (omega arith, omega arith, rw z (c .before .before .before .before .pre .2 .more-marks (c .before .before .at .result - 1) (omega arith)))
 
 returns-2 : tie.Need-returns-2
-returns-2 c = λ T M U x t.
+returns-2 c = λ T M x t.
     let f = row-is (c .before .before) T in
     let e = f .0 in
     let l = f .1 in

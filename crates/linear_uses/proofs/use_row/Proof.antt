@@ -1,12 +1,12 @@
--- `use_row` meets its contract: no occurrence, a word without a row, the second occurrence of a row, or another one.
+-- `use_row` meets its contract: no occurrence, a word without a row, the one that 62 is related to, or another one.
 use borrow.Author.Needs.{needs}
 use native.Mathlib.Omega.{arith}
 use Prim.Native.Nat.{_-_, _<_, _≤_}
 use mathlib.Core.Path.{_≡_, sym, _∙_}
-use borrow.Author.Tests.{not-true, not-false}
+use borrow.Author.Tests.{not-true, not-false, eqb-true, eqb-false}
 use Rattle.nodes.specs.Shown.{treeOf}
 use Rattle.linear_uses.specs.Uses.{OnRows}
-use Rattle.linear_uses.proofs.Uses.{not-used, no-row, use-second, use-other}
+use Rattle.linear_uses.proofs.Uses.{not-used, no-row, use-related, use-other}
 use Rattle.linear_uses.proofs.use_row.Statement.{statement}
 use Rattle.linear_uses.proofs.use_row.Tie as tie
 
@@ -29,17 +29,17 @@ returns-2 c = λ T M U t. no-row t (c .before .before .before .before .args .p) 
 add-one-requires : tie.Need-add-one-requires
 add-one-requires c κs = let f = few-rows (c .before .before) in let z = c .before .if2 .left in let l : c .before .before .at .result - 1 < 511 = omega (arith, z) in (l, omega arith, c .before .before .before .before .before .pre .3 .more-counts (c .before .before .at .result - 1) l)
 
-cell-requires : tie.Need-cell-requires
-cell-requires c κs = let f = few-rows (c .before .before .before .before) in let z = c .before .before .before .if2 .left in (omega (arith, z), omega arith)
+is-related-requires : tie.Need-is-related-requires
+is-related-requires c κs = let f = few-rows (c .before .before .before .before) in let z = c .before .before .before .if2 .left in omega (arith, z)
 
 element-write-tallies : tie.Need-element-write-tallies
 element-write-tallies c = let f = few-rows (c .before .before .before .before .before .before) in let z = c .before .before .before .before .before .if2 .left in omega (arith, z)
 
 returns-3 : tie.Need-returns-3
-returns-3 c = λ T M U t. let d = c .before .before .before .before .before .before in use-second t (d .before .before .before .args .p) (not-false _ (d .before .if1 .left)) (row-is d T) (c .before .before .before .before .before .if2 .left) (few-rows d) (c .before .before .before .add-one .ensures) (sym (c .before .cell .ensures .0) ∙ c .if3 .taken)
+returns-3 c = λ T M U t. let d = c .before .before .before .before .before .before in use-related t (d .before .before .before .args .p) (not-false _ (d .before .if1 .left)) (row-is d T) (c .before .before .before .before .before .if2 .left) (few-rows d) (c .before .before .before .add-one .ensures) (eqb-true _ _ (sym (c .before .is-related .ensures) ∙ c .if3 .taken))
 
 returns-4 : tie.Need-returns-4
-returns-4 c = λ T M U t. let d = c .before .before .before .before .before .before in use-other t (d .before .before .before .args .p) (not-false _ (d .before .if1 .left)) (row-is d T) (c .before .before .before .before .before .if2 .left) (few-rows d) (c .before .before .before .add-one .ensures) (λ e. c .if3 .left (c .before .cell .ensures .0 ∙ e))
+returns-4 c = λ T M U t. let d = c .before .before .before .before .before .before in use-other t (d .before .before .before .args .p) (not-false _ (d .before .if1 .left)) (row-is d T) (c .before .before .before .before .before .if2 .left) (few-rows d) (c .before .before .before .add-one .ensures) (eqb-false _ _ (sym (c .before .is-related .ensures) ∙ c .if3 .left))
 
 pub use-row-spec : {M : Type 1} → statement M
-use-row-spec = tie.close (tie.spec returns at-requires returns-2 (λ c. search needs) add-one-requires (λ c. search needs) cell-requires (λ c. search needs) (λ c. search needs) (λ c. search needs) (λ c. search needs) (λ c. search needs) element-write-tallies returns-3 returns-4)
+use-row-spec = tie.close (tie.spec returns at-requires returns-2 (λ c. search needs) add-one-requires (λ c. search needs) is-related-requires (λ c. search needs) (λ c. search needs) (λ c. search needs) (λ c. search needs) (λ c. search needs) element-write-tallies returns-3 returns-4)
