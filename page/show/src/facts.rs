@@ -276,3 +276,40 @@ impl<'t> Facts<'t> {
         if self.is_text(name) { self.fresh(name) } else { name.to_string() }
     }
 }
+
+#[cfg(test)]
+mod tests {
+    use super::*;
+
+    /// For each row of the only entry, the text from the Name of each of its marks on.
+    fn marks(parameters: &str, clauses: &str, body: &str) -> Vec<Vec<String>> {
+        let text = format!("contract C {{ entry e({parameters}) {clauses} {{ {body} }} }}");
+        let image = example::image(&text);
+        let tree = Tree::of(&image).expect("a tree");
+        let facts = Facts { tree: &tree };
+        let entry = facts.items(kind::ENTRY).next().expect("an entry");
+        let from = |name: usize| text[tree.nodes[name].from as usize..].replace(" {  } }", "");
+        let of_row = |row: Row| facts.marks_of(entry, row.place).into_iter().map(from).collect();
+        facts.rows(entry).into_iter().map(of_row).collect()
+    }
+
+    #[test]
+    fn one_mark_for_each_burned_parameter_in_their_order() {
+        let lots = "x: Q_Asset<N>, x: Q_Asset<M>, y: Q_Asset<M>, x: Q_Asset<O>, x: Q_Asset<N>, x: u8";
+        let none: [&str; 0] = [];
+        let of_x = ["N", "M burns N", "N"];
+        assert_eq!(marks(lots, "burns M burns N", ""), [&of_x[..], &none, &["M burns N"], &none, &none]);
+        // of two clauses with one asset the first gives the mark
+        assert_eq!(marks("x: Q_Asset<M>", "burns M burns M", ""), [["M burns M"]]);
+    }
+
+    #[test]
+    fn what_gives_no_mark() {
+        for parameters in ["x: Q_Asset", "x: Q_Asset<3>", "x: Q_Asset<N>", "x: Q_Asset<N, M>"] {
+            assert_eq!(marks(parameters, "burns M", ""), [[""; 0]], "{parameters}");
+        }
+        assert_eq!(marks("", "burns M", "let x = mint(1);"), [[""; 0]]);
+        let later = marks("x: Q_Asset<M>", "burns M", "let x = mint(1);");
+        assert_eq!(later.iter().map(Vec::len).collect::<Vec<_>>(), [1, 0]);
+    }
+}

@@ -114,8 +114,8 @@ fn fault(entry: &Entry, asked: &Asked) -> Fault {
     }
 }
 
-/// The sentence of an offence: of a lot that is used more than once it says so where `burns` is a use. The marks
-/// of the lot decide that, and never whether the list has a related place.
+/// The sentence of an offence. Of a lot that is used more than once it says where `burns` is a use: the marks
+/// of the lot decide that, never whether the list has a related place.
 fn sentence<'w>(entry: &'w Entry, asked: &Asked) -> &'w str {
     let Asked { facts, offence, .. } = *asked;
     let node = offence.place.node;

@@ -96,7 +96,8 @@ fn of_62(parameters: &str, clauses: &str, body: &str) -> String {
 #[test]
 fn burned_and_used() {
     let plain = "the lot `lot` is used more than once: stock would count double";
-    let burned = "the lot `lot` is used more than once, since its `burns` clause is a use too: stock would count double";
+    let burned = "the lot `lot` is used more than once, since its `burns` clause is a use too: stock would count \
+                  double";
     let twice = "the lot `lot` is burned more than once, since several parameters have its name: stock would be \
                  written off twice";
     let lot = "lot: Q_Asset<M>";
