@@ -37,7 +37,8 @@ pub struct Offence {
     /// function or method, and for 51 the name whose method it is.
     pub name: Option<String>,
     /// The other place that the rule speaks of: the first declaration of a name that is declared
-    /// again, the second use of a lot.
+    /// again, the second use of a lot. With a `burns` clause, which is the earlier use, that is the first
+    /// one in the statements, else the second there; where `burns` alone uses it twice there is none.
     pub related: Option<Place>,
 }
 

@@ -217,29 +217,44 @@ impl<'t> Facts<'t> {
         }
     }
 
-    /// The uses that count for the row at a place: those of its name, where it is the last of its name.
+    /// The rows that have the name of the row at a place, in order; none where no row stands there.
+    fn rows_of_its_name(&self, entry: usize, place: usize) -> Vec<Row> {
+        let mut rows = self.rows(entry);
+        let name = rows.iter().find(|row| row.place == place).map(|row| row.name.clone());
+        rows.retain(|row| Some(&row.name) == name.as_ref());
+        rows
+    }
+
+    /// The uses in statements that count for the row at a place: those of its name, where it is the last row
+    /// of that name.
     pub fn uses_of(&self, entry: usize, place: usize) -> Vec<usize> {
-        let rows = self.rows(entry);
-        let Some(row) = rows.iter().find(|row| row.place == place) else {
+        let rows = self.rows_of_its_name(entry, place);
+        let Some(row) = rows.last().filter(|last| last.place == place) else {
             return vec![];
         };
-        let last = rows.iter().rfind(|other| other.name == row.name).is_some_and(|last| last.place == place);
-        let uses = self.uses(entry).into_iter().filter(|_| last);
-        uses.filter(|one| self.is(*one, &row.name)).collect()
+        self.uses(entry).into_iter().filter(|one| self.is(*one, &row.name)).collect()
     }
 
-    /// The Name in a Burns clause that marks the row at a place: document 01's burn mark.
-    pub fn burned_by(&self, entry: usize, place: usize) -> Option<usize> {
-        let rows = self.rows(entry);
-        let row = rows.iter().find(|row| row.place == place)?;
-        let first = rows.iter().find(|other| other.name == row.name)?;
+    /// Document 01's burn marks of the row at a place, where it is the first row of its name: for each the
+    /// Name in the first Burns clause that gives it, in the order of the parameters. One clause can mark two
+    /// parameters of one name, and is here twice then.
+    pub fn marks_of(&self, entry: usize, place: usize) -> Vec<usize> {
+        let rows = self.rows_of_its_name(entry, place);
+        let Some(row) = rows.first().filter(|first| first.place == place) else {
+            return vec![];
+        };
         let named = self.parts(entry, kind::PARAM).filter(|param| self.is(param + 1, &row.name));
-        let mut clauses = named.filter_map(|p| self.asset_of(p)).filter_map(|a| self.burns(entry, a));
-        if first.place == place { clauses.next() } else { None }
+        named.filter_map(|param| self.asset_of(param)).filter_map(|asset| self.burns(entry, asset)).collect()
     }
 
-    /// The Name in a Burns clause of the entry that is this asset's.
-    pub fn burns(&self, entry: usize, asset: usize) -> Option<usize> {
+    /// Whether nothing uses the row at a place but the Burns clause with this Name.
+    pub fn only_burned_by(&self, name: usize, entry: usize, place: usize) -> bool {
+        let marks = self.marks_of(entry, place);
+        !marks.is_empty() && marks.iter().all(|by| *by == name) && self.uses_of(entry, place).is_empty()
+    }
+
+    /// The Name in the first Burns clause of the entry that is this asset's.
+    fn burns(&self, entry: usize, asset: usize) -> Option<usize> {
         let mut named = self.parts(entry, kind::BURNS).map(|clause| clause + 1);
         named.find(|name| self.tree.text(*name) == self.tree.text(asset))
     }
@@ -259,5 +274,42 @@ impl<'t> Facts<'t> {
     /// This name, or one like it where something in the contract has it.
     pub fn fresh_or(&self, name: &str) -> String {
         if self.is_text(name) { self.fresh(name) } else { name.to_string() }
+    }
+}
+
+#[cfg(test)]
+mod tests {
+    use super::*;
+
+    /// For each row of the only entry, the text from the Name of each of its marks on.
+    fn marks(parameters: &str, clauses: &str, body: &str) -> Vec<Vec<String>> {
+        let text = format!("contract C {{ entry e({parameters}) {clauses} {{ {body} }} }}");
+        let image = example::image(&text);
+        let tree = Tree::of(&image).expect("a tree");
+        let facts = Facts { tree: &tree };
+        let entry = facts.items(kind::ENTRY).next().expect("an entry");
+        let from = |name: usize| text[tree.nodes[name].from as usize..].replace(" {  } }", "");
+        let of_row = |row: Row| facts.marks_of(entry, row.place).into_iter().map(from).collect();
+        facts.rows(entry).into_iter().map(of_row).collect()
+    }
+
+    #[test]
+    fn one_mark_for_each_burned_parameter_in_their_order() {
+        let lots = "x: Q_Asset<N>, x: Q_Asset<M>, y: Q_Asset<M>, x: Q_Asset<O>, x: Q_Asset<N>, x: u8";
+        let none: [&str; 0] = [];
+        let of_x = ["N", "M burns N", "N"];
+        assert_eq!(marks(lots, "burns M burns N", ""), [&of_x[..], &none, &["M burns N"], &none, &none]);
+        // of two clauses with one asset the first gives the mark
+        assert_eq!(marks("x: Q_Asset<M>", "burns M burns M", ""), [["M burns M"]]);
+    }
+
+    #[test]
+    fn what_gives_no_mark() {
+        for parameters in ["x: Q_Asset", "x: Q_Asset<3>", "x: Q_Asset<N>", "x: Q_Asset<N, M>"] {
+            assert_eq!(marks(parameters, "burns M", ""), [[""; 0]], "{parameters}");
+        }
+        assert_eq!(marks("", "burns M", "let x = mint(1);"), [[""; 0]]);
+        let later = marks("x: Q_Asset<M>", "burns M", "let x = mint(1);");
+        assert_eq!(later.iter().map(Vec::len).collect::<Vec<_>>(), [1, 0]);
     }
 }

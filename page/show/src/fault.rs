@@ -100,18 +100,29 @@ fn fault(entry: &Entry, asked: &Asked) -> Fault {
     };
     let mark = |node, label: &str, listed| Mark { node, span: span(node), label: blanks.fill(label), listed };
     let in_entry = tree.entry_of(node);
-    let burned =
-        in_entry.and_then(|entry| facts.burned_by(entry, node)).is_some() && !entry.burned.is_empty();
     Fault {
         code: offence.code,
         pass: Pass::of_code(offence.code).unwrap_or(Pass::Resolve),
         title: entry.title.clone(),
-        sentence: blanks.fill(if burned { &entry.burned } else { &entry.fault }),
+        sentence: blanks.fill(sentence(entry, asked)),
         here: mark(node, &entry.here, true),
         others: others(facts, offence, entry).iter().map(|o| mark(o.node, o.label, o.listed)).collect(),
         mend: blanks.fill(entry.mend_for(advice.case)),
         case: advice.case,
         ways: advice.ways,
         entry: in_entry.map(|entry| text(tree, entry + 1)),
+    }
+}
+
+/// The sentence of an offence. Of a lot that is used more than once it says where `burns` is a use: the marks
+/// of the lot decide that, never whether the list has a related place.
+fn sentence<'w>(entry: &'w Entry, asked: &Asked) -> &'w str {
+    let Asked { facts, offence, .. } = *asked;
+    let node = offence.place.node;
+    let within = facts.tree.entry_of(node).filter(|_| offence.code == words::USES);
+    match within.map_or(0, |within| facts.marks_of(within, node).len()) {
+        0 => &entry.fault,
+        1 => &entry.burned,
+        _ => &entry.twice,
     }
 }

@@ -49,18 +49,21 @@ fn declared(facts: Facts, offence: &Offence) -> Option<usize> {
     }
 }
 
-/// Every use of a lot: in the statements, and by a `burns` clause.
+/// Every use of a lot: by `burns` clauses, and in the statements. The clauses stand before the statements, so
+/// their uses are the earlier ones: with a clause the first use in the statements is the second of all.
 fn uses<'w>(facts: Facts, offence: &Offence, words: &'w Entry) -> Vec<Other<'w>> {
     let place = offence.place.node;
     let Some(entry) = facts.tree.entry_of(place) else {
         return vec![];
     };
-    let clause = facts.burned_by(entry, place).map(|name| other(name, &words.clause));
+    let marks = facts.marks_of(entry, place);
+    let clause = if marks.len() > 1 { &words.clauses } else { &words.clause };
     let label = |i: usize| match i {
-        0 => words.first.as_str(),
-        1 => words.there.as_str(),
-        _ => words.more.as_str(),
+        0 => &words.first,
+        1 => &words.there,
+        _ => &words.more,
     };
-    let uses = facts.uses_of(entry, place).into_iter().enumerate();
-    clause.into_iter().chain(uses.map(|(i, node)| other(node, label(i)))).collect()
+    let uses = facts.uses_of(entry, place).into_iter().zip(marks.len()..);
+    let clauses = marks.iter().map(|name| other(*name, clause));
+    clauses.chain(uses.map(|(node, i)| other(node, label(i)))).collect()
 }

@@ -2,6 +2,7 @@
 
 use crate::common;
 use crate::common::chance::Chance;
+use crate::common::contracts::{BURNED_AND_SENT, BURNED_TWICE};
 use crate::common::pages::{hostile, pages};
 use crate::common::tags::{Tag, tags};
 use crate::common::{crossing, fitted, images, mended, respanned, respanned_but_names};
@@ -118,6 +119,44 @@ fn faults_by_entry() {
 
 fn between<'a>(text: &'a str, before: &str, after: &str) -> &'a str {
     text.split_once(before).and_then(|(_, rest)| rest.split_once(after)).expect("both are there").0
+}
+
+/// The related places on the card of the only 62, as people read them: what is said of each, and its line.
+fn related_places(source: &str) -> Vec<(String, String)> {
+    let html = shown_source(show::html, source);
+    sound(&html);
+    let card = html.split("<article").find(|card| card.contains("(code 62)")).expect("a card for 62");
+    let places = between(card, "<dt>Related place</dt><dd>", "</dd>");
+    let place = |html: &str| {
+        let (said, line) =
+            html.split_once("</a>").and_then(|(_, rest)| rest.split_once("</p>")).expect("both");
+        (plain(said), line.to_string())
+    };
+    places.split("<p>").skip(1).map(place).collect()
+}
+
+/// A related place as it has to be read.
+fn related_place(label: &str, before: &str, marked: &str, after: &str) -> (String, String) {
+    let line = format!("{before}<mark class=\"also\">{marked}</mark>{after}");
+    (format!(": {label}"), format!("<code class=\"excerpt\">{line}</code>"))
+}
+
+/// Document 01's P9: the card leads to the clause and to the use.
+#[test]
+fn burned_and_sent() {
+    let expected = [
+        related_place("this clause is its first use", "burns ", "Morphine", ""),
+        related_place("its second use", "send(to, ", "lot", ");"),
+    ];
+    assert_eq!(related_places(BURNED_AND_SENT), expected);
+}
+
+/// `burns` alone makes two uses: the card leads to both clauses.
+#[test]
+fn burned_twice() {
+    let label = "this clause is a use for each lot that it burns";
+    let expected = ["Morphine", "Fentanyl"].map(|asset| related_place(label, "burns ", asset, ""));
+    assert_eq!(related_places(BURNED_TWICE), expected);
 }
 
 /// A code is explained by an example once, however often it comes.

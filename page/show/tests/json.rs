@@ -2,6 +2,7 @@
 
 use crate::common;
 use crate::common::chance::Chance;
+use crate::common::contracts::{BURNED_AND_SENT, BURNED_TWICE};
 use crate::common::json::Json;
 use crate::common::{fitted, images, respanned, sample, shown, shown_source, shown_ward};
 use isonkaypu::Limit;
@@ -52,6 +53,42 @@ fn a_faulty_contract() {
     assert_eq!(cut(&source, twice.at("related/0")), "part");
     assert_eq!(twice.at("related/0/region/start_line").number(), line_of(&source, "send(pharmacist, part)"));
     assert_eq!(twice.at("related/0/region/start_column").number(), 26);
+}
+
+/// What a place of a report says of itself: its text, its line, its label, and whether it is listed.
+fn place_of<'a>(source: &'a str, place: &'a Json) -> (&'a str, u64, &'a str, bool) {
+    let line = place.at("region/start_line").number();
+    (cut(source, place), line, place.at("label").text(), place.at("listed") == &Json::Bool(true))
+}
+
+/// Document 01's P9: the use is the listed place, and the clause, which is the earlier use, stands beside it.
+#[test]
+fn burned_and_sent() {
+    let source = BURNED_AND_SENT;
+    let json = Json::read(&shown_source(show::json, source));
+    let offence = json.at("offences/0");
+    assert_eq!(offence.at("code").number(), 62);
+    let places: Vec<_> = offence.at("related").list().iter().map(|place| place_of(source, place)).collect();
+    let expected = [
+        ("lot", line_of(source, "send(to, lot)"), "its second use", true),
+        ("Morphine", line_of(source, "burns Morphine"), "this clause is its first use", false),
+    ];
+    assert_eq!(places, expected);
+    let related = common::related_of_62(source).expect("a related place");
+    assert_eq!(offence.at("related/0/node").number(), related.node as u64);
+}
+
+/// `burns` alone makes two uses: no place is listed, and both clauses are there.
+#[test]
+fn burned_twice() {
+    let json = Json::read(&shown_source(show::json, BURNED_TWICE));
+    let offence = json.at("offences").list().iter().find(|o| o.at("code").number() == 62).expect("a 62");
+    let places: Vec<_> = offence.at("related").list().iter().map(|p| place_of(BURNED_TWICE, p)).collect();
+    let label = "this clause is a use for each `lot` that it burns";
+    let expected = ["Morphine", "Fentanyl"]
+        .map(|asset| (asset, line_of(BURNED_TWICE, &format!("burns {asset}")), label, false));
+    assert_eq!(places, expected);
+    assert_eq!(common::related_of_62(BURNED_TWICE), None);
 }
 
 fn cut<'a>(source: &'a str, place: &Json) -> &'a str {

@@ -23,6 +23,9 @@ fn at<'a>(text: &'a str, mark: &'a Mark) -> (&'a str, &'a str, bool) {
 /// Contracts, the code of their fault, and its other places.
 type Row = (u16, &'static str, &'static [(&'static str, &'static str, bool)]);
 
+const FIRST_BY_CLAUSE: &str = "this clause is its first use";
+const FOR_EACH: &str = "this clause is a use for each `lot` that it burns";
+
 const ROWS: &[Row] = &[
     (
         24,
@@ -49,16 +52,60 @@ const ROWS: &[Row] = &[
     (
         62,
         "contract C { asset M; entry e(lot: Q_Asset<M>, to: Q_Address) burns M {\nsend(to,\nlot); } }",
-        &[("M {", "this clause is a use too", false), ("lot)", "used here", false)],
+        &[("M {", FIRST_BY_CLAUSE, false), ("lot)", "its second use", true)],
     ),
     (
         62,
-        "contract C { entry e(lot: Q_Asset<M>) { send(1, lot); send(2, lot); send(3, checked(lot)); } }",
+        "contract C { asset M; entry e(lot: Q_Asset<M>) burns M { send(1, lot); send(2, lot, 2); f = lot; } }",
+        &[
+            ("M { send(1, lot)", FIRST_BY_CLAUSE, false),
+            ("lot)", "its second use", true),
+            ("lot, 2)", "used once more here", false),
+            ("lot", "used once more here", false),
+        ],
+    ),
+    (
+        62,
+        "contract C { entry e(lot: Q_Asset<M>) { send(1, lot); send(2, lot, 2); } }",
+        &[("lot)", "used here", false), ("lot, 2)", "its second use", true)],
+    ),
+    (
+        62,
+        "contract C { entry e(lot: Q_Asset<M>) { send(1, lot); send(2, lot, 2); send(3, checked(lot)); } }",
         &[
             ("lot)", "used here", false),
-            ("lot)", "its second use", true),
+            ("lot, 2)", "its second use", true),
             ("lot))", "used once more here", false),
         ],
+    ),
+    // one clause, two parameters of one name: it marks the first of them twice, and is shown once
+    (
+        62,
+        "contract C { asset M; entry e(lot: Q_Asset<M>, lot: Q_Asset<M>) burns M { send(1, lot); } }",
+        &[("M { send(1, lot)", FOR_EACH, false)],
+    ),
+    // two clauses, each for one of them
+    (
+        62,
+        "contract C { asset M; asset N; entry e(lot: Q_Asset<M>, lot: Q_Asset<N>) burns N burns M { } }",
+        &[("N burns M { } }", FOR_EACH, false), ("M { } }", FOR_EACH, false)],
+    ),
+    // of two clauses with one asset the first is meant
+    (
+        62,
+        "contract C { asset M; entry e(lot: Q_Asset<M>) burns M burns M { send(1, lot); } }",
+        &[("M burns M { send(1, lot)", FIRST_BY_CLAUSE, false), ("lot)", "its second use", true)],
+    ),
+    // the mark is on the first of two rows, and the uses are on the last
+    (
+        62,
+        "contract C { asset M; entry e(lot: Q_Asset<M>, lot: Q_Asset<N>) burns M { send(1, lot); f = lot; } }",
+        &[("lot)", "used here", false), ("lot", "its second use", true)],
+    ),
+    (
+        62,
+        "contract C { asset M; entry e(lot: Q_Asset<M>) burns M { let lot = mint(1); send(1, lot); f = lot; } }",
+        &[("lot)", "used here", false), ("lot", "its second use", true)],
     ),
     (30, "contract C { entry e() { emit E(); } }", &[]),
 ];
@@ -70,6 +117,19 @@ fn every_other_place() {
         let places: Vec<_> = fault.others.iter().map(|mark| at(text, mark)).collect();
         assert_eq!(places, *expected, "{code}: {text}");
         assert!(fault.here.listed);
+    }
+}
+
+/// The place that is marked as listed is the library's, and no other is.
+#[test]
+fn the_listed_place_is_the_librarys() {
+    for (_, text, _) in ROWS {
+        let report = check_image(&example::image(text)).expect("an image");
+        for (offence, fault) in report.offences().iter().zip(faults(&report)) {
+            let listed: Vec<usize> = fault.others.iter().filter(|o| o.listed).map(|o| o.node).collect();
+            let related: Vec<usize> = offence.related.iter().map(|place| place.node).collect();
+            assert_eq!(listed, related, "{}: {text}", offence.code);
+        }
     }
 }
 
@@ -117,7 +177,15 @@ fn people_see_them_all() {
         let [plain, html] = [show::text, show::html].map(|form| shown_source(form, text));
         for (_, label, _) in *expected {
             assert!(plain.contains(label), "{label}: {plain}");
-            assert!(html.contains(&label.replace("`let`", "<code>let</code>")), "{label}");
+            assert!(html.contains(&in_html(label)), "{label}");
         }
     }
+}
+
+/// Words as the page has them: what stands between backquotes is code.
+fn in_html(words: &str) -> String {
+    let parts = words.split('`').enumerate();
+    parts
+        .map(|(i, part)| if i % 2 == 1 { format!("<code>{part}</code>") } else { part.to_string() })
+        .collect()
 }

@@ -3,6 +3,7 @@
 
 use crate::common;
 use crate::common::chance::Chance;
+use crate::common::contracts::{BURNED_AND_SENT, BURNED_TWICE};
 use crate::common::json::Json;
 use crate::common::pages::hostile;
 use crate::common::{crossing, fitted, images, mended, respanned, sample, shown, shown_source, shown_ward};
@@ -336,6 +337,39 @@ fn related_places_are_linked() {
             }
         }
     }
+}
+
+/// Document 01's P9: the message leads to the use and to the clause.
+#[test]
+fn burned_and_sent() {
+    let log = admitted(&shown_source(show::sarif, BURNED_AND_SENT));
+    let result = log.at("runs/0/results/0");
+    let message = result.at("message/text").text();
+    assert!(message.contains("since its `burns` clause is a use too"), "{message}");
+    let see = " See [its second use](1), [this clause is its first use](2).";
+    assert!(message.ends_with(see), "{message}");
+    let line = |place: &Json| place.at("physicalLocation/region/startLine").number();
+    let places = result.at("relatedLocations").list();
+    assert_eq!(places.iter().map(line).collect::<Vec<_>>(), [6, 4]);
+    let listed: Vec<&Json> = places.iter().map(|place| place.at("properties/listed")).collect();
+    assert_eq!(listed, [&Json::Bool(true), &Json::Bool(false)]);
+    let related = common::related_of_62(BURNED_AND_SENT).expect("a related place");
+    assert_eq!(places[0].at("properties/node").number(), related.node as u64);
+    let start = places[0].at("physicalLocation/region/byteOffset").number();
+    assert_eq!(start, u64::from(related.span.start));
+}
+
+/// `burns` alone makes two uses: the message leads to both clauses.
+#[test]
+fn burned_twice() {
+    let log = admitted(&shown_source(show::sarif, BURNED_TWICE));
+    let results = log.at("runs/0/results").list();
+    let result = results.iter().find(|result| result.at("ruleId").text() == "62").expect("a 62");
+    let places = result.at("relatedLocations").list();
+    let line = |place: &Json| place.at("physicalLocation/region/startLine").number();
+    assert_eq!(places.iter().map(line).collect::<Vec<_>>(), [5, 6]);
+    assert!(places.iter().all(|place| place.at("properties/listed") == &Json::Bool(false)));
+    assert_eq!(common::related_of_62(BURNED_TWICE), None);
 }
 
 /// The fingerprints of a contract's results, in their order.

@@ -45,7 +45,8 @@ fn the_examples() {
         filled(mend, &fault.mend, &format!("{} owner caller", entry.before));
         filled(&entry.here, &fault.here.label, &entry.before);
         let there = fault.others.iter().map(|mark| mark.label.as_str()).collect::<String>();
-        let labels = [&entry.there, &entry.first, &entry.more, &entry.clause].map(String::as_str).join(" ");
+        let labels = [&entry.there, &entry.first, &entry.more, &entry.clause, &entry.clauses];
+        let labels = labels.map(String::as_str).join(" ");
         filled(&labels, &there, &entry.before);
         assert_eq!(there.is_empty(), entry.there.is_empty(), "{}", entry.number);
     }
@@ -83,18 +84,42 @@ fn a_lot_that_can_be_burned_and_one_that_cannot() {
     assert!(to.contains("`send(nurse, lot);`"), "{to}");
 }
 
+/// The sentence of the first 62 of an entry with these parameters, clauses and statements.
+fn of_62(parameters: &str, clauses: &str, body: &str) -> String {
+    let items = format!("asset M; asset N; entry e({parameters}) {clauses} {{ {body} }}");
+    let faults = faults_of(&format!("contract C {{ {items} }}"));
+    let fault = faults.into_iter().find(|fault| fault.code == 62);
+    fault.unwrap_or_else(|| panic!("no 62: {items}")).sentence
+}
+
+/// The marks of a lot decide what is said of its uses, whatever the list has as the related place.
 #[test]
 fn burned_and_used() {
-    let fault = only("asset M; entry e(lot: Q_Asset<M>, to: Q_Address) burns M { send(to, lot); }");
-    assert!(fault.code == 62 && fault.others.iter().all(|mark| !mark.listed), "{:?}", fault.others);
-    assert!(fault.sentence.contains("its `burns` clause is a use too"), "{}", fault.sentence);
-    // the mark decides, not whether the list has a second place
-    let thrice = only("asset M; entry e(lot: Q_Asset<M>) burns M { send(caller, lot); send(caller, lot); }");
-    assert_eq!(thrice.others.iter().filter(|mark| mark.listed).count(), 1);
-    assert!(thrice.sentence.contains("its `burns` clause is a use too"), "{}", thrice.sentence);
-    let unlike =
-        only("asset M; asset N; entry e(lot: Q_Asset<M>) burns N { send(caller, lot); send(caller, lot); }");
-    assert!(!unlike.sentence.contains("burns"), "{}", unlike.sentence);
+    let plain = "the lot `lot` is used more than once: stock would count double";
+    let burned = "the lot `lot` is used more than once, since its `burns` clause is a use too: stock would count \
+                  double";
+    let twice = "the lot `lot` is burned more than once, since several parameters have its name: stock would be \
+                 written off twice";
+    let lot = "lot: Q_Asset<M>";
+    let two_uses = "send(1, lot); send(2, lot);";
+    assert_eq!(of_62(lot, "burns M", "send(1, lot);"), burned);
+    assert_eq!(of_62(lot, "burns M", two_uses), burned);
+    assert_eq!(of_62(lot, "burns N", two_uses), plain);
+    assert_eq!(of_62("lot: Q_Asset", "burns M", two_uses), plain);
+    let [same, unlike] = ["M", "N"].map(|asset| format!("{lot}, lot: Q_Asset<{asset}>"));
+    assert_eq!(of_62(&same, "burns M", ""), twice);
+    assert_eq!(of_62(&unlike, "burns M burns N", "send(1, lot);"), twice);
+    // the mark is on the first of the two, and the uses are on the last
+    assert_eq!(of_62(&unlike, "burns M", two_uses), plain);
+    assert_eq!(of_62(lot, "burns M", &format!("let lot = mint(1); {two_uses}")), plain);
+}
+
+/// What is said of a marked lot is said in 62 alone.
+#[test]
+fn other_faults_of_a_burned_lot() {
+    let faults = faults_of("contract C { asset M; state { lot: u8; } entry e(lot: Q_Asset<M>) burns M { } }");
+    let said: Vec<_> = faults.iter().map(|fault| (fault.code, fault.sentence.contains("burn"))).collect();
+    assert_eq!(said, [(24, false)]);
 }
 
 #[test]
@@ -221,13 +246,24 @@ const MENDS: &[Mend] = &[
     (
         62,
         "asset M; entry e(lot: Q_Asset<M>) burns M { send(caller, lot); }",
-        "take `burns M` out, or what else is done with `lot`: the clause is a use already",
+        "keep one use of `lot`: the clause `burns M`, or one other without the clause; to divide a lot use `split`",
+    ),
+    (
+        62,
+        "asset M; entry e(lot: Q_Asset<M>, box: Q_Asset<M>) burns M { send(caller, lot); }",
+        "keep `burns M` as the one use of `lot`, and take every other use out: `box` needs the clause",
+    ),
+    (
+        62,
+        "asset M; entry e(lot: Q_Asset<M>, lot: Q_Asset<M>) burns M { }",
+        "give each its own name first (25, 27, 29): more than one thing here is called `lot`; `burns` counts for the \
+             first lot of a name, any other use for the last",
     ),
     (
         61,
         "asset M; entry e(lot: Q_Asset<M>, lot: Q_Asset<M>) { send(caller, lot); }",
-        "give each its own name first (25, 27, 29): more than one thing here is called `lot`, and uses count for \
-             the last one",
+        "give each its own name first (25, 27, 29): more than one thing here is called `lot`; `burns` counts for the \
+             first lot of a name, any other use for the last",
     ),
 ];
 

@@ -1,6 +1,7 @@
 //! The text for people, on contracts with a source: what stands where.
 
 use crate::common;
+use crate::common::contracts::{BURNED_AND_SENT, BURNED_TWICE};
 use isonkaypu::Limit;
 use show::text;
 
@@ -90,6 +91,62 @@ REFUSED  ward.quanta: 2 faults
 2 faults: access 1, lots 1
 ";
     assert_eq!(shown(&example::image(WARD), None), expected.to_string() + &words::last_lines(Some(51)));
+}
+
+/// Document 01's P9: both lines are shown, that of the clause and that of the use.
+#[test]
+fn burned_and_sent() {
+    let expected = "\
+REFUSED  ward.quanta: 1 fault
+
+[62] the lot `lot` is used more than once, since its `burns` clause is a use too: stock would count
+     double
+  ward.quanta:3:19
+  3 |     entry destroy(lot: Q_Asset<Morphine>, to: Q_Address)
+    |                   ^^^ this lot
+  ward.quanta:4:15
+  4 |         burns Morphine
+    |               -------- this clause is its first use
+  ward.quanta:6:18
+  6 |         send(to, lot);
+    |                  --- its second use
+  mend: keep one use of `lot`: the clause `burns Morphine`, or one other without the clause; to
+        divide a lot use `split`
+
+1 fault: lots 1
+";
+    assert_eq!(of(BURNED_AND_SENT), expected.to_string() + &words::last_lines(Some(62)));
+    let related = common::related_of_62(BURNED_AND_SENT).expect("a related place");
+    let place = format!(
+        "node {}, bytes {} to {}: its second use",
+        related.node, related.span.start, related.span.end
+    );
+    let without_source = shown(&example::image(BURNED_AND_SENT), None);
+    assert!(without_source.contains(&place), "{without_source}");
+}
+
+/// Two parameters of one name, two clauses: both are shown.
+#[test]
+fn burned_twice() {
+    let expected = "
+[62] the lot `lot` is burned more than once, since several parameters have its name: stock would be
+     written off twice
+  ward.quanta:4:19
+  4 |     entry destroy(lot: Q_Asset<Morphine>, lot: Q_Asset<Fentanyl>, to: Q_Address)
+    |                   ^^^ this lot
+  ward.quanta:5:15
+  5 |         burns Morphine
+    |               -------- this clause is a use for each `lot` that it burns
+  ward.quanta:6:15
+  6 |         burns Fentanyl
+    |               -------- this clause is a use for each `lot` that it burns
+  mend: give each its own name first (25, 27, 29): more than one thing here is called `lot`; `burns`
+        counts for the first lot of a name, any other use for the last
+
+2 faults: names 1, lots 1
+";
+    let text = of(BURNED_TWICE);
+    assert!(text.contains(expected), "{text}");
 }
 
 #[test]

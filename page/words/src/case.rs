@@ -52,6 +52,8 @@ pub enum Case {
     Burn,
     /// A `burns` clause uses the lot.
     Burned,
+    /// The same, and nothing else uses another lot.
+    Needed,
 }
 
 use Case::*;
@@ -76,7 +78,7 @@ const OF_CODES: &[(u16, &[Case])] = &[
     (51, &[Clause, Wrong, Beside]),
     (60, &[Both]),
     (61, &[Burn, Beside, First, Deployer]),
-    (62, &[Burned, First]),
+    (62, &[Burned, Needed, First]),
 ];
 
 impl Case {
@@ -112,6 +114,7 @@ impl Case {
             Both => "mend both",
             Burn => "mend burn",
             Burned => "mend burned",
+            Needed => "mend needed",
         }
     }
 }

@@ -31,16 +31,20 @@ pub struct Entry {
     pub fault: String,
     /// The sentence where a `burns` clause is one of the uses, for 62.
     pub burned: String,
+    /// The same where `burns` alone uses it more than once, since parameters have one name.
+    pub twice: String,
     /// What stands at the place.
     pub here: String,
     /// What stands at the related place, where the rule has one.
     pub there: String,
-    /// What stands at a further place of 62: the first use.
+    /// What stands at a further place of 62: the first use, where that is in a statement.
     pub first: String,
     /// The same of uses after the second.
     pub more: String,
-    /// The same of the clause.
+    /// The same of a `burns` clause, which is the first use.
     pub clause: String,
+    /// The same of each `burns` clause where they alone use it more than once.
+    pub clauses: String,
     /// What the rule looks at.
     pub means: String,
     /// Why a ward should care.

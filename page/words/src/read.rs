@@ -159,8 +159,8 @@ fn gap(section: &Section, before: &[Gap]) -> Result<Gap, Trouble> {
 
 /// The fields of a code, beside its cases. A refusal has no place, so it has none of those of places.
 const FIELDS: &[&str] = &[
-    "title", "fault", "burned", "here", "there", "first", "more", "clause", "means", "matters", "mend",
-    "how", "before", "after",
+    "title", "fault", "burned", "twice", "here", "there", "first", "more", "clause", "clauses", "means",
+    "matters", "mend", "how", "before", "after",
 ];
 
 fn entry(section: &Section, numbers: &[u16], before: &[Entry]) -> Result<Entry, Trouble> {
@@ -190,11 +190,13 @@ fn placed(section: &Section, number: u16) -> Result<Entry, Trouble> {
         title: needed(section, "title")?,
         fault: needed(section, "fault")?,
         burned: where_true(uses, "burned")?,
+        twice: where_true(uses, "twice")?,
         here: where_true(code, "here")?,
         there: where_true(others, "there")?,
         first: where_true(uses, "first")?,
         more: where_true(uses, "more")?,
         clause: where_true(uses, "clause")?,
+        clauses: where_true(uses, "clauses")?,
         means: needed(section, "means")?,
         matters: needed(section, "matters")?,
         mend: needed(section, "mend")?,
@@ -257,12 +259,13 @@ fn value(field: &Field) -> String {
     text.trim_end().to_string()
 }
 
+/// The fields that are sentences and labels of a report, beside the mends.
+const SAID: &[&str] = &["fault", "burned", "twice", "here", "there", "first", "more", "clause", "clauses"];
+
 /// Blanks stand in the sentences of codes only, and each is known.
 fn blanks_known(section: &Section) -> Result<(), Trouble> {
     for field in section.fields.iter().filter(|f| !matches!(f.name, "before" | "after")) {
-        let sentence =
-            matches!(field.name, "fault" | "burned" | "here" | "there" | "first" | "more" | "clause");
-        let may = section.kind == "code" && (sentence || field.name.starts_with("mend"));
+        let may = section.kind == "code" && (SAID.contains(&field.name) || field.name.starts_with("mend"));
         if let Some(blank) = blanks(&value(field)).into_iter().find(|b| !may || !BLANKS.contains(b)) {
             return trouble(field.line, format!("`{{{blank}}}` is no blank of `{}:`", field.name));
         }

@@ -52,12 +52,68 @@ fn burns_never_mends_a_let() {
     assert_eq!(codes("asset M; entry e() burns M { let made = mint(1); }"), [61]);
 }
 
+/// The entry's text from the related place of its first 62 on; nothing where the number is 0.
+fn from_related(lots: &str, clauses: &str, body: &str) -> Option<String> {
+    let text = format!("contract C {{ asset M; asset N; entry e({lots}) {clauses} {{ {body} }} }}");
+    let report = check_image(&example::image(&text)).unwrap_or_else(|refusal| panic!("{refusal}: {text}"));
+    let offence = report.offences().iter().find(|offence| offence.code == 62).expect("a 62");
+    offence.related.map(|place| text[place.span.start as usize..].to_string())
+}
+
 #[test]
-fn burns_counts_as_one_use_and_has_no_second_place() {
-    let text = "contract C { asset M; entry e(lot: Q_Asset<M>, to: Q_Address) burns M { send(to, lot); } }";
-    let report = check_image(&example::image(text)).expect("an image");
-    let said: Vec<_> = report.offences().iter().map(|o| (o.code, o.related.is_some())).collect();
-    assert_eq!(said, [(62, false)]);
+fn the_related_number_of_62() {
+    let means = &words::code(62).expect("62").means;
+    let claim = "the first one in the statements where a `burns` clause uses the lot, else the second there.";
+    assert!(means.contains(claim), "{means}");
+    let lot = "lot: Q_Asset<M>";
+    let [one, two, three] =
+        [1, 2, 3].map(|n| (1..=n).map(|i| format!("send({i}, lot);")).collect::<String>());
+    for (clauses, body, before) in [
+        ("burns M", &one, "send(1, "),
+        ("burns M", &three, "send(1, "),
+        ("burns N burns M", &two, "send(1, "),
+        ("", &two, "send(2, "),
+        ("", &three, "send(2, "),
+        ("burns N", &two, "send(2, "),
+    ] {
+        let (_, expected) = body.split_once(before).expect("the use");
+        let said = from_related(lot, clauses, body).expect("a related place");
+        assert!(said.starts_with(expected), "{clauses} {body}: {said}");
+    }
+}
+
+#[test]
+fn the_related_number_of_62_is_0_where_burns_alone_makes_two_uses() {
+    let means = &words::code(62).expect("62").means;
+    let claim =
+        "Where that alone makes two uses, the related number is 0, since no statement is one of them.";
+    assert!(means.contains(claim), "{means}");
+    for body in ["", "send(1, lot);"] {
+        assert_eq!(from_related("lot: Q_Asset<M>, lot: Q_Asset<M>", "burns M", body), None, "{body}");
+        assert_eq!(from_related("lot: Q_Asset<M>, lot: Q_Asset<N>", "burns M burns N", body), None, "{body}");
+    }
+}
+
+#[test]
+fn burns_counts_for_the_first_lot_of_a_name() {
+    let entry = |types: [&str; 2], clauses: &str, body: &str| {
+        let [first, second] = types;
+        let lots = format!("lot: Q_Asset<{first}>, lot: Q_Asset<{second}>");
+        codes(&format!("asset M; asset N; entry e({lots}) {clauses} {{ {body} }}"))
+    };
+    assert_eq!(entry(["M", "N"], "burns M", "send(1, lot);"), [25]);
+    // the first is not burned itself, and yet the mark is its
+    assert_eq!(entry(["N", "M"], "burns M", "send(1, lot);"), [25]);
+    assert_eq!(entry(["M", "M"], "burns M", "send(1, lot);"), [25, 62]);
+    assert_eq!(entry(["M", "M"], "burns M", ""), [25, 62, 61]);
+    assert_eq!(entry(["M", "N"], "burns M", "send(1, lot); send(2, lot);"), [25, 62]);
+}
+
+/// "To destroy a part and hand out the rest, keep the clause, split off what is handed out, and send that."
+#[test]
+fn a_part_is_destroyed_and_the_rest_handed_out() {
+    assert_eq!(with_lot("burns M", "let part = lot.split(1); send(to, part);"), []);
+    assert_eq!(with_lot("burns M", "let part = lot.split(1); send(to, part); send(to, lot);"), [62]);
 }
 
 #[test]

@@ -29,6 +29,10 @@ fn missing() {
     assert_eq!(trouble("title: a lot is never used\n", ""), "`title:` is missing in [code 61]");
     assert_eq!(trouble("title: a lot is never used\n", "title:\n"), "`title:` is missing in [code 61]");
     assert_eq!(trouble("there: its second use\n", ""), "`there:` is missing in [code 62]");
+    for field in ["burned", "twice", "first", "more", "clause", "clauses"] {
+        let line = WORDS.lines().find(|line| line.starts_with(&format!("{field}: "))).expect("a field of 62");
+        assert_eq!(trouble(&format!("{line}\n"), ""), format!("`{field}:` is missing in [code 62]"));
+    }
     let start = WORDS.find("[code 50]").expect("50");
     let end = WORDS.find("[code 51]").expect("51");
     let without = format!("{}{}", &WORDS[..start], &WORDS[end..]);
@@ -88,7 +92,10 @@ fn unknown() {
 fn misplaced() {
     let here = "here: emitted here\n";
     assert_eq!(trouble(here, &format!("{here}there: elsewhere\n")), "`there:` does not belong here");
-    assert_eq!(trouble(here, &format!("{here}burned: as it is\n")), "`burned:` does not belong here");
+    for field in ["burned", "twice", "first", "more", "clause", "clauses"] {
+        let expected = format!("`{field}:` does not belong here");
+        assert_eq!(trouble(here, &format!("{here}{field}: as it is\n")), expected);
+    }
     assert_eq!(trouble("[term contract]", "contract\n[term contract]"), "words before the first `[...]`");
     assert_eq!(trouble("[term contract]", "[contract]"), "a head is `[kind of]`, such as `[code 51]`");
     assert_eq!(

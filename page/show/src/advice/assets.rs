@@ -79,7 +79,8 @@ impl Asked<'_> {
     fn without_the_clause(&self, clause: usize) -> Way {
         let (facts, entry) = (self.facts, self.entry());
         let burns = facts.tree.kind(clause) == kind::BURNS;
-        let rows = facts.rows(entry).into_iter().filter(|row| burns && self.only_use_is(clause, row.place));
+        let left = |row: &Row| burns && facts.only_burned_by(clause + 1, entry, row.place);
+        let rows = facts.rows(entry).into_iter().filter(left);
         std::iter::once(remove(clause)).chain(rows.flat_map(|row| self.sent_lot(entry, &row))).collect()
     }
 
@@ -91,11 +92,6 @@ impl Asked<'_> {
         }
         let fresh = self.facts.fresh(&row.name);
         vec![replace(row.place, &fresh), statement(entry, format!("send({to}, {fresh});"))]
-    }
-
-    fn only_use_is(&self, clause: usize, place: usize) -> bool {
-        let by = self.facts.burned_by(self.entry(), place);
-        by == Some(clause + 1) && self.facts.uses_of(self.entry(), place).is_empty()
     }
 
     /// Somebody in this entry that a lot can be sent to: an address whose name nothing else has here.

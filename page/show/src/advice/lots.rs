@@ -15,7 +15,7 @@ impl Asked<'_> {
         let of = |name: &str| uses.iter().copied().filter(|u| facts.is(*u, name)).collect::<Vec<_>>();
         let second = of(self.name());
         let place = facts.rows(entry).into_iter().rfind(|row| row.name == lot).map_or(0, |row| row.place);
-        let used = !of(&lot).is_empty() || facts.burned_by(entry, place).is_some();
+        let used = !of(&lot).is_empty() || !facts.marks_of(entry, place).is_empty();
         if used && !second.is_empty() {
             let out = self.statements_out(&second);
             let way = out.map(|out| std::iter::once(remove(one)).chain(out).collect());
@@ -112,34 +112,43 @@ impl Asked<'_> {
     /// 62: a lot is used more than once.
     pub fn used_twice(&self) -> Advice {
         let (facts, entry) = (self.facts, self.entry());
-        let uses = facts.uses_of(entry, self.node());
-        let burned = facts.burned_by(entry, self.node());
-        let asset = burned.map_or(String::new(), |name| facts.text(name));
         if facts.namesakes(entry, self.name()) > 1 {
-            return Advice::new(Case::First, vec![]).with("asset", asset);
+            return Advice::new(Case::First, vec![]);
         }
-        let Some(name) = burned else {
-            let later = uses.get(1..).unwrap_or_default();
-            let first = uses.first().and_then(|one| facts.statement_of(*one));
-            let apart = later.iter().all(|one| facts.statement_of(*one) != first);
-            let out = self.statements_out(later).filter(|_| apart);
-            return Advice::new(Case::Plain, out.into_iter().collect());
+        let uses = facts.uses_of(entry, self.node());
+        // with one thing of its name there is one mark at most
+        let Some(clause) = facts.marks_of(entry, self.node()).first().copied() else {
+            return Advice::new(Case::Plain, self.first_use_alone(&uses).into_iter().collect());
         };
-        let clause = self.without_burns(name, uses.len());
-        let ways = clause.into_iter().chain(self.statements_out(&uses)).collect();
+        let asset = facts.text(clause);
+        let clause_alone = self.statements_out(&uses);
+        if let Some(other) = self.needing(clause) {
+            let advice = Advice::new(Case::Needed, clause_alone.into_iter().collect());
+            return advice.with("asset", asset).with("other", other);
+        }
+        let first_alone = self.first_use_alone(&uses).map(|out| [self.burns_out(&asset), out].concat());
+        let ways = first_alone.into_iter().chain(clause_alone).collect();
         Advice::new(Case::Burned, ways).with("asset", asset)
     }
 
-    /// The clause out, where one use is left and no other lot needs the clause.
-    fn without_burns(&self, name: usize, uses: usize) -> Option<Way> {
+    /// The statements of the later uses out, where the first use stands in another one.
+    fn first_use_alone(&self, uses: &[usize]) -> Option<Way> {
+        let (first, later) = uses.split_first()?;
+        let kept = self.facts.statement_of(*first);
+        let apart = later.iter().all(|one| self.facts.statement_of(*one) != kept);
+        self.statements_out(later).filter(|_| apart)
+    }
+
+    /// Another lot of the entry that needs the Burns clause with this Name: nothing else uses it.
+    fn needing(&self, clause: usize) -> Option<String> {
         let (facts, entry) = (self.facts, self.entry());
-        let rows = facts.rows(entry);
-        let others = rows.iter().filter(|row| row.place != self.node());
-        let needed = others.filter(|row| {
-            facts.burned_by(entry, row.place).is_some_and(|by| facts.text(by) == facts.text(name))
-        });
-        let free = needed.into_iter().all(|row| !facts.uses_of(entry, row.place).is_empty());
-        let same = facts.parts(entry, kind::BURNS).filter(|clause| facts.is(clause + 1, &facts.text(name)));
-        (uses == 1 && free).then(|| same.map(remove).collect())
+        let mut others = facts.rows(entry).into_iter().filter(|row| row.place != self.node());
+        others.find(|row| facts.only_burned_by(clause, entry, row.place)).map(|row| row.name)
+    }
+
+    /// Every Burns clause of this asset out.
+    fn burns_out(&self, asset: &str) -> Way {
+        let clauses = self.facts.parts(self.entry(), kind::BURNS);
+        clauses.filter(|clause| self.facts.is(clause + 1, asset)).map(remove).collect()
     }
 }

@@ -3,6 +3,32 @@
 use super::chance::Chance;
 use words::Case::{self, *};
 
+/// Document 01's P9: a lot that is burned, and sent as well.
+pub const BURNED_AND_SENT: &str = "\
+contract WardStock {
+    asset Morphine;
+    entry destroy(lot: Q_Asset<Morphine>, to: Q_Address)
+        burns Morphine
+    {
+        send(to, lot);
+    }
+}
+";
+
+/// Two parameters of one name, each burned by a clause of its own.
+pub const BURNED_TWICE: &str = "\
+contract WardStock {
+    asset Morphine;
+    asset Fentanyl;
+    entry destroy(lot: Q_Asset<Morphine>, lot: Q_Asset<Fentanyl>, to: Q_Address)
+        burns Morphine
+        burns Fentanyl
+    {
+        send(to, lot);
+    }
+}
+";
+
 /// What a template's capital letters stand for, behind a `$`; `~` is a slip of the pen for the same.
 const NAMES: &[(char, &[&str])] = &[
     ('F', &["limit", "issued", "day_total"]),
@@ -154,7 +180,11 @@ pub const TEMPLATES: &[Template] = &[
     (62, Plain, "state { $G: u64; } asset $A; entry $E($L: Q_Asset<$A>, $T: Q_Address) writes $G { % send($T, $L); % $G.merge($L); }"),
     (62, Plain, "state { $G: u64; } entry $E($T: Q_Address) writes $G { let $X = $G.split(5); send($T, $X); % $G = $X; send($T, $X); }"),
     (62, Burned, "asset $A; entry $E($L: Q_Asset<$A>, $T: Q_Address) burns $A { % send($T, $L); }"),
-    (62, Burned, "asset $A; state { $G: u64; } entry $E($L: Q_Asset<$A>, $M: Q_Asset<$A>, $T: Q_Address) burns $A writes $G { $G.merge($L); % send($T, $L); }"),
+    (62, Burned, "asset $A; state { $G: u64; } entry $E($L: Q_Asset<$A>, $T: Q_Address) burns $A writes $G { $G.merge($L); % send($T, $L); % $G = $L; }"),
+    (62, Burned, "asset $A; entry $E($L: Q_Asset<$A>, $M: Q_Asset<$A>, $T: Q_Address) burns $A { send($T, $L); % send($T, $M); }"),
+    (62, Needed, "asset $A; state { $G: u64; } entry $E($L: Q_Asset<$A>, $M: Q_Asset<$A>, $T: Q_Address) burns $A writes $G { $G.merge($L); % send($T, $L); }"),
+    (62, First, "asset $A; entry $E($L: Q_Asset<$A>, $L: Q_Asset<$A>, $T: Q_Address) burns $A { % send($T, $L); }"),
+    (62, First, "asset $A; asset $B; entry $E($L: Q_Asset<$A>, $L: Q_Asset<$B>, $T: Q_Address) burns $A burns $B { % send($T, $L); }"),
     (62, First, "asset $A; entry $E($L: Q_Asset<$A>, $L: Q_Asset<$A>, $T: Q_Address) { % send($T, $L); send($T, $L); }"),
 ];
 

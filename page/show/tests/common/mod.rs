@@ -5,7 +5,7 @@
 use chance::Chance;
 use form::image::{HEADER, NODE};
 use form::{Tree, kind};
-use isonkaypu::{Limit, PackError, Span, check_image};
+use isonkaypu::{Limit, PackError, Place, Span, check_image};
 use show::Subject;
 use std::path::Path;
 
@@ -119,6 +119,15 @@ pub fn umlaut(form: fn(&Subject) -> String, limit: Limit) -> String {
 /// Shows a source that the example reader can read, with itself at hand.
 pub fn shown_source(form: fn(&Subject) -> String, source: &str) -> String {
     shown(form, "ward.quanta", &example::image(source), Some(source.as_bytes()))
+}
+
+/// The related place that the library gives the only 62 of a source.
+pub fn related_of_62(source: &str) -> Option<Place> {
+    let report = check_image(&example::image(source)).expect("an image");
+    let mut of_62 = report.offences().iter().filter(|offence| offence.code == 62);
+    let (one, more) = (of_62.next().expect("a 62"), of_62.next());
+    assert_eq!(more, None, "one 62");
+    one.related
 }
 
 /// An image with other span words: node i gets those that `span` says.
