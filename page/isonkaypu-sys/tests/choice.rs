@@ -7,10 +7,10 @@ mod choose;
 use choose::{Chosen, named, own};
 use std::cell::RefCell;
 use std::fs;
+use std::io::Write;
 use std::ops::Deref;
-use std::os::unix::fs::PermissionsExt;
 use std::path::{Path, PathBuf};
-use std::process::Command;
+use std::process::{Command, Stdio};
 
 /// A folder that goes with its test. It stands outside of this repository, whose toolchain takes every source
 /// that it finds there for one of a crate.
@@ -48,9 +48,15 @@ fn write(path: &Path, text: &str) {
     fs::write(path, text).expect("a file for the test");
 }
 
+/// A program for a test, written by another process. While this one had the file open, a test beside it could
+/// start a program, which holds all open files for a moment, and what was written could not be run then.
 fn program(path: &Path, text: &str) {
-    write(path, text);
-    fs::set_permissions(path, fs::Permissions::from_mode(0o755)).expect("a program for the test");
+    write(path, "");
+    let script = "cat >\"$0\" && chmod 755 \"$0\"";
+    let mut writer =
+        Command::new("sh").args(["-c", script]).arg(path).stdin(Stdio::piped()).spawn().expect("sh");
+    writer.stdin.take().expect("its input").write_all(text.as_bytes()).expect("a program for the test");
+    assert!(writer.wait().expect("it ends").success());
 }
 
 /// What the repository's script says that its crates are.
