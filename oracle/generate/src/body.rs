@@ -151,8 +151,10 @@ impl Maker<'_> {
                 continue;
             }
             made.push(self.use_of(&asset));
-            if self.takes(62) {
-                made.push(self.use_of(&asset));
+            for _ in 0..2 {
+                if self.takes(62) {
+                    made.push(self.use_of(&asset));
+                }
             }
         }
         made

@@ -324,7 +324,8 @@ impl<'r> Maker<'r> {
         let inner = ty.children.get(1).and_then(|t| t.children.first()?.text.clone());
         if is_asset {
             self.scope.rows.push(text.clone());
-            if !inner.is_some_and(|t| burned.contains(&t)) {
+            // a burn is a use: one more is an offence
+            if !inner.is_some_and(|t| burned.contains(&t)) || self.takes(62) {
                 self.scope.pending.push(text.clone());
             }
         }

@@ -128,17 +128,21 @@ fn counted_arguments(tree: &Tree, call: usize) -> Vec<usize> {
     peeled.filter(|a| tree.kind(*a) == IDENT).collect()
 }
 
-/// "After all 60s, rows in order: 61 when marks plus occurrences are 0, 62 when over 1." Related
-/// is, for 62, "the second counted occurrence in preorder (its Ident), 0 if there is none".
+/// "After all 60s, rows in order: 61 when marks plus occurrences are 0, 62 when over 1."
 fn uses(rows: &[Row], out: &mut Records) {
     for row in rows {
         match row.marks + row.occurrences.len() {
             0 => out.push(at(61, row.place)),
             1 => {}
-            _ => {
-                let second = row.occurrences.get(1).copied().unwrap_or(0);
-                out.push(related(62, row.place, second));
-            }
+            _ => out.push(related(62, row.place, related_use(row))),
         }
     }
+}
+
+/// Request E4, a burn is a use: "Related shall be the first counted occurrence when the row has a
+/// burn mark, the second when it has none, and 0 if there is no such occurrence." They stand by
+/// their Ident's number.
+fn related_use(row: &Row) -> usize {
+    let which = if row.marks > 0 { 0 } else { 1 };
+    row.occurrences.get(which).copied().unwrap_or(0)
 }

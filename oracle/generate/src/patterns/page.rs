@@ -1,4 +1,4 @@
-//! Document 01, "Patterns we check by hand": P1 to P14.
+//! Document 01, "Patterns we check by hand": P1 to P14. Request E4 gives P9 its related place.
 
 use super::*;
 use crate::ident;
@@ -49,10 +49,10 @@ fn p8_and_p9() -> Vec<Pattern> {
         let head = [marked_param("x", 'x', asset_of("T")), to_address(), burns("T")];
         vec![asset("T"), entry("e", head.into_iter().chain(statements).collect())]
     };
-    let sent = send(vec![ident("to"), ident("x")]);
+    let sent = send(vec![ident("to"), ident("x").marked('1')]);
     vec![
         pattern("P8 burns T, empty body", burned(vec![]), ""),
-        pattern("P9 burns T and send(to, x)", burned(vec![sent]), "62x"),
+        pattern("P9 burns T and send(to, x)", burned(vec![sent]), "62x1"),
     ]
 }
 

@@ -17,6 +17,8 @@ pub fn all() -> Vec<Pattern> {
         writes_rules(),
         aliases_and_rows(),
         marks_and_occurrences(),
+        burned_and_used(),
+        burned_above(),
     ];
     groups.into_iter().flatten().collect()
 }
@@ -247,22 +249,65 @@ fn aliases_and_rows() -> Vec<Pattern> {
     ]
 }
 
+/// An asset `T`, and an entry that burns it.
+fn burning(name: &'static str, params: Vec<Node>, statements: Vec<Node>, list: &'static str) -> Pattern {
+    let parts = [params, vec![burns("T")], statements].concat();
+    pattern(name, vec![asset("T"), entry("e", parts)], list)
+}
+
 fn marks_and_occurrences() -> Vec<Pattern> {
     let x = |mark, ty| marked_param("x", mark, ty);
-    let marked_twice = vec![x('1', asset_of("T")), x('2', asset_of("T")), burns("T")];
+    let marked_twice = vec![x('1', asset_of("T")), x('2', asset_of("T"))];
     let second = || ident("x").marked('o');
     let used_twice = vec![x('1', asset_type()), x('2', asset_type()), send(vec![ident("x"), second()])];
     let inner = apply("send", vec![ident("x")]);
     let by_number = vec![asset_x(), send(vec![inner, checked(second()), ident("x")])];
-    let no_inner = vec![x('x', ty_of("Q_Asset", vec![number("3"), ty("T")])), burns("T")];
+    let no_inner = vec![x('x', ty_of("Q_Asset", vec![number("3"), ty("T")]))];
     vec![
-        pattern(
-            "S marks on the first row of a name",
-            vec![asset("T"), entry("e", marked_twice)],
-            "2521 621 612",
-        ),
+        burning("S marks on the first row of a name", marked_twice, vec![], "2521 621 612"),
         of_entry("S occurrences on the last row of a name", used_twice, "2521 611 622o"),
         of_entry("S the second occurrence is by the Ident's number", by_number, "62xo"),
-        pattern("S Q_Asset<3, T> has no inner type", vec![asset("T"), entry("e", no_inner)], "61x"),
+        burning("S Q_Asset<3, T> has no inner type", no_inner, vec![], "61x"),
+    ]
+}
+
+/// Request E4: related is "the first counted occurrence when the row has a burn mark".
+fn burned_and_used() -> Vec<Pattern> {
+    let x = || ident("x");
+    let first = || x().marked('1');
+    let burned = || vec![marked_param("x", 'x', asset_of("T"))];
+    let of = |name, statements| burning(name, burned(), statements, "62x1");
+    let inner = apply("send", vec![first()]);
+    let looked_at = method(int(), "get", vec![x()]);
+    vec![
+        of("S burned and used twice: the first", vec![send(vec![first(), x()])]),
+        of("S burned and used three times: the first", vec![send(vec![first(), x()]), send(vec![x()])]),
+        of("S burned: the first is by the Ident's number", vec![send(vec![inner, x()])]),
+        of("S burned: what is no use is not the first", vec![send(vec![looked_at, first()])]),
+    ]
+}
+
+/// .. "the second when it has none, and 0 if there is no such occurrence": marks are on the first
+/// row of the name, occurrences on the last.
+fn burned_above() -> Vec<Pattern> {
+    let x = |mark, ty| marked_param("x", mark, ty);
+    let twice = || send(vec![ident("x"), ident("x").marked('o')]);
+    let burned = |last| vec![x('1', asset_of("T")), x('2', last)];
+    let minted = local("x", apply("mint", vec![])).marked('2');
+    let first_alone = vec![x('1', asset_of("T"))];
+    vec![
+        burning(
+            "S the other parameter is burned: the second",
+            burned(asset_type()),
+            vec![twice()],
+            "2521 622o",
+        ),
+        burning(
+            "S the parameter is burned, not the Let: the second",
+            first_alone,
+            vec![minted, twice()],
+            "292 622o",
+        ),
+        burning("S two marks and no occurrence: 0", burned(asset_of("T")), vec![twice()], "2521 621 622o"),
     ]
 }
