@@ -1,5 +1,5 @@
 -- Clean tables: fresh ones, which the pass is lent; others in their stead.
-use Prim.Native.Nat.{ℕ, _+_, _*_, _≤_}
+use Prim.Native.Nat.{ℕ, _+_, _*_}
 use mathlib.Core.Path.{_≡_}
 use mathlib.Core.Bool.{Bool, false}
 use mathlib.Core.List.{List}
@@ -18,10 +18,7 @@ use Rattle.linear_parts.specs.declared.Words.{Words}
 use Rattle.linear_rows.specs.Tallies.{Blank}
 use Rattle.linear.specs.Seen.{LookedWords, LinearTables, Clean}
 
--- no flag is set from a later node on
-pub clear-later : {p q : ℕ} {r : List Bool} → p ≤ q → Clear p r → Clear q r
-clear-later l C = record { size = C .size; flag = λ i g h. C .flag i (omega arith) h }
-
+-- no flag is set
 pub clear-all : Clear 1 (replicate 2048 false)
 clear-all = record { size = length-replicate {A = Bool} 2048 false; flag = λ i g h. getD-replicate 2048 i false false h }
 

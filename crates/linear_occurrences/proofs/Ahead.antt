@@ -24,6 +24,7 @@ pub ahead-starts : (t : Tree) {base : ℕ} {r : List Bool} → Clear base r → 
 unfolding some
 ahead-starts t {base} C = record { size = C .size; flag = λ i l h. C .flag i l h ∙ sym (ap (some (takesNode t i) base) (sub-self base)) }
 
+-- no flag is set from a later node on
 pub clear-later : {p q : ℕ} {r : List Bool} → p ≤ q → Clear p r → Clear q r
 clear-later l C = record { size = C .size; flag = λ i g h. C .flag i (omega arith) h }
 

@@ -1,5 +1,5 @@
 -- One more counted occurrence on a row, its related word, and the occurrences that a sweep has counted ("Counted occurrences" of document 01).
-use Prim.Native.Nat.{ℕ, _+_, _*_, _-_, _≤_}
+use Prim.Native.Nat.{ℕ, _+_, _*_, _-_, _<_, _≤_}
 use mathlib.Core.Path.{_≡_, refl, ap, _∙_, sym}
 use mathlib.Core.Bool.{Bool, true, false, true≢false}
 use mathlib.Core.List.{List, [], _∷_, _++_, append-nil}
@@ -17,82 +17,80 @@ use Rattle.rules.specs.Vocabulary.{alone}
 use Rattle.rules.specs.Linear.{isCounted, relatedUse}
 use Rattle.records.proofs.Sweep.{run-none, run-on, keep-none, keep-one, has-not}
 use Rattle.nodes.specs.Shown.{Worded, In, View, treeOf}
-use Rattle.linear_rows.specs.Tallies.{Tallied, marksAt, countAt, relatedTurn}
+use Rattle.linear_rows.specs.Tallies.{Tallied, marksAt, countAt, relatedAt, relatedTurn}
 use Rattle.linear_rows.proofs.Tallied.{tallied-as, related-is, related-stays}
 use Rattle.linear_uses.specs.Uses.{SpareCounts, OnRows, Using, onRow, useAt}
-use Rattle.linear_uses.proofs.Tally.{keep-few, run-few}
-
-one-more : (l : List ℕ) (p : ℕ) → length (l ++ p ∷ []) ≡ length l + 1
-one-more l p = omega (arith, length-append l (p ∷ []))
+use Rattle.linear_uses.proofs.Tally.{left-out, on-its-row, keep-few, run-few}
 
 -- p on the row that v notes, if it is hit
 abbrev put : Bool → ℕ → ℕ → ℕ → List ℕ
 put hit v p r = keep hit (λ x. keep (eqb v (r + 1)) alone x) p
 
 module _ {M U : ℕ → List ℕ} {s : List ℕ} (T : Tallied M U s) where
-  -- no occurrence; one whose word has no row
+  -- no occurrence
   pub not-used : {hit : Bool} (v p : ℕ) → hit ≡ false → Tallied M (λ r. U r ++ put hit v p r) s
   not-used v p e = tallied-as (λ r. refl) (λ r. sym (ap (λ (l : List ℕ). U r ++ l) (keep-none (λ x. keep (eqb v (r + 1)) alone x) p e) ∙ append-nil (U r))) T
 
-  pub no-row : {hit : Bool} {v : ℕ} (p : ℕ) → hit ≡ true → v ≡ 0 → Tallied M (λ r. U r ++ put hit v p r) s
-  no-row {v = v} p e z =
-      tallied-as (λ r. refl) (λ r. sym (ap (λ (l : List ℕ). U r ++ l) (keep-one (λ x. keep (eqb v (r + 1)) alone x) p e ∙ keep-none alone p (ne-eqb v (r + 1) (λ d. omega arith))) ∙ append-nil (U r))) T
+  -- an occurrence, and the row that v notes for its word
+  module _ {hit : Bool} (v p : ℕ) (e : hit ≡ true) where
+    put-is : (r : ℕ) → keep (eqb v (r + 1)) alone p ≡ put hit v p r
+    put-is r = sym (keep-one (λ y. keep (eqb v (r + 1)) alone y) p e)
 
-  -- an occurrence on the row that x notes, which the code knows as v: its cells in the tallies afterwards
-  module _ {hit : Bool} {x v : ℕ} (p : ℕ) (e : hit ≡ true) (k : x ≡ v) (z : v ≡ 0 → ⊥) (h : v ≤ 511) where
-    here : (r : ℕ) → r ≡ v - 1 → U r ++ p ∷ [] ≡ U r ++ put hit x p r
-    here r d = sym (ap (λ (l : List ℕ). U r ++ l) (keep-one (λ y. keep (eqb x (r + 1)) alone y) p e ∙ keep-one alone p (eq-eqb x (r + 1) (omega (arith, z)))))
+    -- on another row nothing is put
+    elsewhere : (r : ℕ) → (v ≡ r + 1 → ⊥) → U r ≡ U r ++ put hit v p r
+    elsewhere r n = sym (left-out (U r) p (ne-eqb v (r + 1) n)) ∙ ap (λ (l : List ℕ). U r ++ l) (put-is r)
 
-    there : (r : ℕ) → (r ≡ v - 1 → ⊥) → U r ≡ U r ++ put hit x p r
-    there r n = sym (ap (λ (l : List ℕ). U r ++ l) (keep-one (λ y. keep (eqb x (r + 1)) alone y) p e ∙ keep-none alone p (ne-eqb x (r + 1) (λ d. n (omega arith)))) ∙ append-nil (U r))
+    pub no-row : v ≡ 0 → Tallied M (λ r. U r ++ put hit v p r) s
+    no-row z = tallied-as (λ r. refl) (λ r. elsewhere r (λ d. omega arith)) T
 
-    used : {s′ : List ℕ} → length s′ ≡ 1533 → ((i : ℕ) → (i ≡ 3 * (v - 1) + 1 → ⊥) → (i ≡ 3 * (v - 1) + 2 → ⊥) → getD s′ i 0 ≡ getD s i 0)
-        → getD s′ (3 * (v - 1) + 1) 0 ≡ getD s (3 * (v - 1) + 1) 0 + 1 → getD s′ (3 * (v - 1) + 2) 0 ≡ relatedUse (M (v - 1)) (U (v - 1) ++ p ∷ []) → Tallied M (λ r. U r ++ put hit x p r) s′
-    used {s′} len other count rel = record {
-      size = len;
-      marks = λ r l. other (3 * r) (λ d. omega arith) (λ d. omega arith) ∙ T .marks r l;
-      counts = λ r l.
-          ⊎-elim
-          (λ (d : r ≡ v - 1). ap (λ (q : ℕ). getD s′ (3 * q + 1) 0) d ∙ count ∙ ap (λ (q : ℕ). getD s (3 * q + 1) 0 + 1) (sym d) ∙ ap (λ (k : ℕ). k + 1) (T .counts r l) ∙ sym (one-more (U r) p) ∙ ap length (here r d))
-          (λ (n : r ≡ v - 1 → ⊥). other (3 * r + 1) (λ d. n (omega arith)) (λ d. omega arith) ∙ T .counts r l ∙ ap length (there r n))
-          (eq-or-ne r (v - 1));
-      relateds = λ r l.
-          ⊎-elim
-          (λ (d : r ≡ v - 1). ap (λ (q : ℕ). getD s′ (3 * q + 2) 0) d ∙ rel ∙ ap (λ (q : ℕ). relatedUse (M q) (U q ++ p ∷ [])) (sym d) ∙ ap (relatedUse (M r)) (here r d))
-          (λ (n : r ≡ v - 1 → ⊥). other (3 * r + 2) (λ d. omega arith) (λ d. n (omega arith)) ∙ T .relateds r l ∙ ap (relatedUse (M r)) (there r n))
-          (eq-or-ne r (v - 1));
-    }
-
-    -- one more in the count; where that is the turn of the related word, p is that word
-    module _ {s′ : List ℕ} (g : s′ ≡ set s (3 * (v - 1) + 1) (getD s (3 * (v - 1) + 1) 0 + 1)) where
+    -- one more in the count of the row that the code knows as w
+    module _ {w : ℕ} (k : v ≡ w) (z : w ≡ 0 → ⊥) (h : w ≤ 511) {s′ : List ℕ} (g : s′ ≡ set s (3 * (w - 1) + 1) (getD s (3 * (w - 1) + 1) 0 + 1)) where
       long : length s′ ≡ 1533
-      long = ap length g ∙ length-set s (3 * (v - 1) + 1) (getD s (3 * (v - 1) + 1) 0 + 1) ∙ T .size
+      long = ap length g ∙ length-set s (3 * (w - 1) + 1) (getD s (3 * (w - 1) + 1) 0 + 1) ∙ T .size
 
-      others : (i : ℕ) → (i ≡ 3 * (v - 1) + 1 → ⊥) → getD s′ i 0 ≡ getD s i 0
-      others i n = ap (λ (l : List ℕ). getD l i 0) g ∙ getD-set-other s (3 * (v - 1) + 1) i (getD s (3 * (v - 1) + 1) 0 + 1) 0 n
+      others : (i : ℕ) → (i ≡ 3 * (w - 1) + 1 → ⊥) → getD s′ i 0 ≡ getD s i 0
+      others i n = ap (λ (l : List ℕ). getD l i 0) g ∙ getD-set-other s (3 * (w - 1) + 1) i (getD s (3 * (w - 1) + 1) 0 + 1) 0 n
 
-      counted : getD s′ (3 * (v - 1) + 1) 0 ≡ getD s (3 * (v - 1) + 1) 0 + 1
-      counted = let z = T .size in ap (λ (l : List ℕ). getD l (3 * (v - 1) + 1) 0) g ∙ getD-set-same s (3 * (v - 1) + 1) (getD s (3 * (v - 1) + 1) 0 + 1) 0 (omega arith)
+      counted : (r : ℕ) → r < 511 → countAt s′ r ≡ length (U r ++ put hit v p r)
+      counted r l =
+          ap (λ (y : List ℕ). countAt y r) g ∙ on-its-row (λ (q : ℕ). 3 * q + 1) (λ r q d. omega arith) U s w p (omega (arith, z)) (let n = T .size in omega arith) (T .counts) r l
+          ∙ ap (λ (y : ℕ). length (U r ++ keep (eqb y (r + 1)) alone p)) (sym k) ∙ ap (λ (y : List ℕ). length (U r ++ y)) (put-is r)
 
-      -- the turns by the cells are those by the lists
-      count-is : length (U (v - 1)) + 1 ≡ countAt s′ (v - 1)
-      count-is = sym (counted ∙ ap (λ (k : ℕ). k + 1) (T .counts (v - 1) (omega arith)))
+      -- the turn of the related word by the cells is that by the lists
+      put-here : U (w - 1) ++ put hit v p (w - 1) ≡ U (w - 1) ++ p ∷ []
+      put-here = ap (λ (l : List ℕ). U (w - 1) ++ l) (sym (put-is (w - 1)) ∙ keep-one alone p (eq-eqb v (w - 1 + 1) (omega (arith, z))))
 
-      turn-is : relatedTurn (marksAt s′ (v - 1)) ≡ relatedTurn (length (M (v - 1)))
-      turn-is = ap relatedTurn (others (3 * (v - 1)) (λ d. omega arith) ∙ T .marks (v - 1) (omega arith))
+      count-is : length (U (w - 1)) + 1 ≡ countAt s′ (w - 1)
+      count-is = sym (counted (w - 1) (omega arith) ∙ ap length put-here ∙ length-append (U (w - 1)) (p ∷ []))
 
-      pub use-related : countAt s′ (v - 1) ≡ relatedTurn (marksAt s′ (v - 1)) → Tallied M (λ r. U r ++ put hit x p r) (set s′ (3 * (v - 1) + 2) p)
+      turn-is : relatedTurn (marksAt s′ (w - 1)) ≡ relatedTurn (length (M (w - 1)))
+      turn-is = ap relatedTurn (others (3 * (w - 1)) (λ d. omega arith) ∙ T .marks (w - 1) (omega arith))
+
+      -- tallies that have s′ in all cells but this row's related word, which has p among the row's occurrences
+      used : {s″ : List ℕ} → length s″ ≡ 1533 → ((i : ℕ) → (i ≡ 3 * (w - 1) + 2 → ⊥) → getD s″ i 0 ≡ getD s′ i 0) → relatedAt s″ (w - 1) ≡ relatedUse (M (w - 1)) (U (w - 1) ++ p ∷ []) → Tallied M (λ r. U r ++ put hit v p r) s″
+      used {s″} len other rel = record {
+        size = len;
+        marks = λ r l. other (3 * r) (λ d. omega arith) ∙ others (3 * r) (λ d. omega arith) ∙ T .marks r l;
+        counts = λ r l. other (3 * r + 1) (λ d. omega arith) ∙ counted r l;
+        relateds = λ r l.
+            ⊎-elim
+            (λ (d : r ≡ w - 1). ap (relatedAt s″) d ∙ rel ∙ ap (relatedUse (M (w - 1))) (sym put-here) ∙ ap (λ (q : ℕ). relatedUse (M q) (U q ++ put hit v p q)) (sym d))
+            (λ (n : r ≡ w - 1 → ⊥). other (3 * r + 2) (λ d. n (omega arith)) ∙ others (3 * r + 2) (λ d. omega arith) ∙ T .relateds r l ∙ ap (relatedUse (M r)) (elsewhere r (λ d. n (omega arith))))
+            (eq-or-ne r (w - 1));
+      }
+
+      -- where its turn has come, p is that word
+      pub use-related : countAt s′ (w - 1) ≡ relatedTurn (marksAt s′ (w - 1)) → Tallied M (λ r. U r ++ put hit v p r) (set s′ (3 * (w - 1) + 2) p)
       use-related turn =
           used
-          (length-set s′ (3 * (v - 1) + 2) p ∙ long)
-          (λ i m n. getD-set-other s′ (3 * (v - 1) + 2) i p 0 n ∙ others i m)
-          (getD-set-other s′ (3 * (v - 1) + 2) (3 * (v - 1) + 1) p 0 (λ d. omega arith) ∙ counted)
-          (getD-set-same s′ (3 * (v - 1) + 2) p 0 (omega (arith, long)) ∙ sym (related-is (M (v - 1)) (U (v - 1)) p (count-is ∙ turn ∙ turn-is)))
+          (length-set s′ (3 * (w - 1) + 2) p ∙ long)
+          (λ i n. getD-set-other s′ (3 * (w - 1) + 2) i p 0 n)
+          (getD-set-same s′ (3 * (w - 1) + 2) p 0 (omega (arith, long)) ∙ sym (related-is (M (w - 1)) (U (w - 1)) p (count-is ∙ turn ∙ turn-is)))
 
-      pub use-other : (countAt s′ (v - 1) ≡ relatedTurn (marksAt s′ (v - 1)) → ⊥) → Tallied M (λ r. U r ++ put hit x p r) s′
+      pub use-other : (countAt s′ (w - 1) ≡ relatedTurn (marksAt s′ (w - 1)) → ⊥) → Tallied M (λ r. U r ++ put hit v p r) s′
       use-other n =
-          used long (λ i m k. others i m) counted
-          (others (3 * (v - 1) + 2) (λ d. omega arith) ∙ T .relateds (v - 1) (omega arith) ∙ sym (related-stays (M (v - 1)) (U (v - 1)) p (λ d. n (sym count-is ∙ d ∙ sym turn-is))))
+          used long (λ i k. refl)
+          (others (3 * (w - 1) + 2) (λ d. omega arith) ∙ T .relateds (w - 1) (omega arith) ∙ sym (related-stays (M (w - 1)) (U (w - 1)) p (λ d. n (sym count-is ∙ d ∙ sym turn-is))))
 
 -- what a sweep is lent
 abbrev pub on-rows : {nodes : List ℕ} {base : ℕ} {reader : List Bool} {rows : List ℕ} → Using nodes base reader rows → OnRows nodes base rows

@@ -1,6 +1,6 @@
-//! The plain reading of document 01, to be held beside the page: simple, slow, and right for any
-//! bytes. It was written from the page and from the readings that docs/RULES.md settles, not from
-//! the published Rust, so that the two can judge each other.
+//! The plain reading of documents 01 and 02, to be held beside the page: simple, slow, and right
+//! for any bytes. It was written from the page and from the readings that docs/RULES.md settles,
+//! not from the published Rust, so that the two can judge each other.
 //!
 //! `admission` holds refusals 1 to 8, `model` the three questions, `resolve`, `access` and
 //! `linear` the offences, `report` the program's text; this file holds what the public functions

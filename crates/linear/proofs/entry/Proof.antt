@@ -10,7 +10,7 @@ use Rattle.places.specs.declared.Note.the-variants.{First, Last}
 use Rattle.linear.specs.Seen.{LinearTables}
 use Rattle.linear_tracked.specs.Rows.{Unrowed}
 use Rattle.linear.proofs.Judged.{blanked}
-use Rattle.linear.proofs.Fresh.{clear-later}
+use Rattle.linear_occurrences.proofs.Ahead.{clear-later}
 use Rattle.linear.proofs.Between.{unrowed-of, placed-of, filled-of, item-is}
 use Rattle.linear.proofs.entry.Statement.{statement}
 use Rattle.linear.proofs.entry.Tie as tie

@@ -1,7 +1,7 @@
 -- `tally` meets its contract: the burn marks on the first rows, then the counted occurrences on the last ones.
 use borrow.Author.Needs.{needs}
 use native.Mathlib.Omega.{arith}
-use Rattle.linear.proofs.Fresh.{clear-later}
+use Rattle.linear_occurrences.proofs.Ahead.{clear-later}
 use Rattle.linear.proofs.Lent.{unburned-of, using-of, entry-tallied}
 use Rattle.linear.proofs.tally.Statement.{statement}
 use Rattle.linear.proofs.tally.Tie as tie

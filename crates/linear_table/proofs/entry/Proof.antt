@@ -10,7 +10,7 @@ use Rattle.places.specs.declared.Note.the-variants.{First, Last}
 use Rattle.linear_tracked.specs.Rows.{Unrowed}
 use Rattle.linear.specs.Seen.{LinearTables}
 use Rattle.linear.proofs.Judged.{blanked}
-use Rattle.linear.proofs.Fresh.{clear-later}
+use Rattle.linear_occurrences.proofs.Ahead.{clear-later}
 use Rattle.linear.proofs.Between.{unrowed-of, placed-of, filled-of}
 use Rattle.linear_table.specs.declared.Row.{Row}
 use Rattle.linear_table.proofs.Held.{holds-as}

@@ -24,7 +24,7 @@ at-requires : tie.Need-at-requires
 at-requires c κs = c .before .before .pre .2 (not-false _ (c .if1 .left))
 
 returns-2 : tie.Need-returns-2
-returns-2 c = λ T M U t. no-row t (c .before .before .before .before .args .p) (not-false _ (c .before .before .if1 .left)) (row-is (c .before) T ∙ c .if2 .taken)
+returns-2 c = λ T M U t. no-row t _ (c .before .before .before .before .args .p) (not-false _ (c .before .before .if1 .left)) (row-is (c .before) T ∙ c .if2 .taken)
 
 add-one-requires : tie.Need-add-one-requires
 add-one-requires c κs = let f = few-rows (c .before .before) in let z = c .before .if2 .left in let l : c .before .before .at .result - 1 < 511 = omega (arith, z) in (l, omega arith, c .before .before .before .before .before .pre .3 .more-counts (c .before .before .at .result - 1) l)
@@ -36,10 +36,10 @@ element-write-tallies : tie.Need-element-write-tallies
 element-write-tallies c = let f = few-rows (c .before .before .before .before .before .before) in let z = c .before .before .before .before .before .if2 .left in omega (arith, z)
 
 returns-3 : tie.Need-returns-3
-returns-3 c = λ T M U t. let d = c .before .before .before .before .before .before in use-related t (d .before .before .before .args .p) (not-false _ (d .before .if1 .left)) (row-is d T) (c .before .before .before .before .before .if2 .left) (few-rows d) (c .before .before .before .add-one .ensures) (eqb-true _ _ (sym (c .before .is-related .ensures) ∙ c .if3 .taken))
+returns-3 c = λ T M U t. let d = c .before .before .before .before .before .before in use-related t _ (d .before .before .before .args .p) (not-false _ (d .before .if1 .left)) (row-is d T) (c .before .before .before .before .before .if2 .left) (few-rows d) (c .before .before .before .add-one .ensures) (eqb-true _ _ (sym (c .before .is-related .ensures) ∙ c .if3 .taken))
 
 returns-4 : tie.Need-returns-4
-returns-4 c = λ T M U t. let d = c .before .before .before .before .before .before in use-other t (d .before .before .before .args .p) (not-false _ (d .before .if1 .left)) (row-is d T) (c .before .before .before .before .before .if2 .left) (few-rows d) (c .before .before .before .add-one .ensures) (eqb-false _ _ (sym (c .before .is-related .ensures) ∙ c .if3 .left))
+returns-4 c = λ T M U t. let d = c .before .before .before .before .before .before in use-other t _ (d .before .before .before .args .p) (not-false _ (d .before .if1 .left)) (row-is d T) (c .before .before .before .before .before .if2 .left) (few-rows d) (c .before .before .before .add-one .ensures) (eqb-false _ _ (sym (c .before .is-related .ensures) ∙ c .if3 .left))
 
 pub use-row-spec : {M : Type 1} → statement M
 use-row-spec = tie.close (tie.spec returns at-requires returns-2 (λ c. search needs) add-one-requires (λ c. search needs) is-related-requires (λ c. search needs) (λ c. search needs) (λ c. search needs) (λ c. search needs) (λ c. search needs) element-write-tallies returns-3 returns-4)
