@@ -18,9 +18,9 @@ use Rattle.linear_parts.specs.declared.Words.{Words}
 use Rattle.linear_rows.specs.Tallies.{Blank}
 use Rattle.linear.specs.Seen.{LookedWords, LinearTables, Clean}
 
--- no flag is set
-pub clear-all : Clear 1 (replicate 2048 false)
-clear-all = record { size = length-replicate {A = Bool} 2048 false; flag = λ i g h. getD-replicate 2048 i false false h }
+-- no node has a consumer
+pub clear-all : Clear 1 (replicate 2048 0)
+clear-all = record { size = length-replicate {A = ℕ} 2048 0; cell = λ i g h. getD-replicate 2048 i 0 0 h }
 
 pub blank-all : Blank (replicate 1533 0)
 blank-all = record {

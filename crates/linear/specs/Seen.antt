@@ -59,11 +59,11 @@ abbrev pub seenLinear : (Tree → List Rec) → (nodes : Lent (List ℕ)) (words
     → LinearTables (old nodes) words (old reader) (old burned) (old places) (old first) (old last) (old tallies) → List Rec
 seenLinear F nodes words reader burned places first last tallies T = F (treeOf (T .known .view))
 
--- the tables are clean again after an item, and no flag is set behind it
-abbrev pub CleansRows : ℕ → (nodes : Lent (List ℕ)) (words : Words) (reader burned flags : Lent (List Bool)) (places first last tallies : Lent (List ℕ)) → Type 0
-CleansRows p nodes words reader burned flags places first last tallies =
+-- the tables are clean again after an item, and none has a consumer behind it
+abbrev pub CleansRows : ℕ → (nodes : Lent (List ℕ)) (words : Words) (reader burned : Lent (List Bool)) (consumers places first last tallies : Lent (List ℕ)) → Type 0
+CleansRows p nodes words reader burned consumers places first last tallies =
     (T : LinearTables (old nodes) words (old reader) (old burned) (old places) (old first) (old last) (old tallies))
-    → Clean (T .known .view .image) (new burned) (new places) (new first) (new last) (new tallies) × Clear (treeOf (T .known .view) .end p) (new flags)
+    → Clean (T .known .view .image) (new burned) (new places) (new first) (new last) (new tallies) × Clear (treeOf (T .known .view) .end p) (new consumers)
 
 -- an entry whose rows are noted by name, with no mark or use on any of them yet
 pub record RowsNoted (nodes : List ℕ) (words : Words) (e : ℕ) (reader burned : List Bool) (first last tallies : List ℕ) : Type 0 where
@@ -76,8 +76,8 @@ pub record RowsNoted (nodes : List ℕ) (words : Words) (e : ℕ) (reader burned
   pub last-rows : Places (known .view .image) (lastRow (treeOf (known .view)) (rowsOf e (treeOf (known .view)))) last
   pub blank : Blank tallies
 
--- the marks and the uses of the entry stand on its rows; no name is burned any more, and no flag is set behind the entry
-abbrev pub Tallies-entry : {nodes : List ℕ} {words : Words} {e : ℕ} {reader burned₀ : List Bool} {first last tallies₀ : List ℕ} → RowsNoted nodes words e reader burned₀ first last tallies₀ → List Bool → List Bool → List ℕ → Type 0
-Tallies-entry {e = e} T burned flags tallies =
-    Marks (T .known .view .image) (λ w. false) burned × Clear (treeOf (T .known .view) .end e) flags
+-- the marks and the uses of the entry stand on its rows; no name is burned any more, and no node behind the entry has a consumer
+abbrev pub Tallies-entry : {nodes : List ℕ} {words : Words} {e : ℕ} {reader burned₀ : List Bool} {first last tallies₀ : List ℕ} → RowsNoted nodes words e reader burned₀ first last tallies₀ → List Bool → List ℕ → List ℕ → Type 0
+Tallies-entry {e = e} T burned consumers tallies =
+    Marks (T .known .view .image) (λ w. false) burned × Clear (treeOf (T .known .view) .end e) consumers
     × Tallied (rowMarks (treeOf (T .known .view)) e) (rowUses (treeOf (T .known .view)) e) tallies

@@ -1,6 +1,6 @@
 // The linear pass: codes 60, 61 and 62 of document 01, entry by entry, as the pass's part of the list.
 use image::Image;
-use linear_occurrences::Flags;
+use linear_occurrences::Consumers;
 use linear_parts::Words;
 use linear_rows::Tallies;
 use linear_tracked::Cells;
@@ -23,19 +23,19 @@ pub fn tally(
     entry: usize,
     reader: &Marks,
     burned: &mut Marks,
-    flags: &mut Flags,
+    consumers: &mut Consumers,
     first: &Places,
     last: &Places,
     tallies: &mut Tallies,
 )
-    requires { ⌜ RowsNoted (now nodes) words entry (now reader) (now burned) (now first) (now last) (now tallies) × In (now nodes) 0 entry × (0 < entry) × Clear entry (now flags) ⌝ }
-    ensures { λ _. ⌜ ((T : RowsNoted (old nodes) words entry (old reader) (old burned) (old first) (old last) (old tallies)) → Tallies-entry T (new burned) (new flags) (new tallies)) ⌝ }
+    requires { ⌜ RowsNoted (now nodes) words entry (now reader) (now burned) (now first) (now last) (now tallies) × In (now nodes) 0 entry × (0 < entry) × Clear entry (now consumers) ⌝ }
+    ensures { λ _. ⌜ ((T : RowsNoted (old nodes) words entry (old reader) (old burned) (old first) (old last) (old tallies)) → Tallies-entry T (new burned) (new consumers) (new tallies)) ⌝ }
 {
     let asset = words.asset;
     let start = items::first_statement(nodes, 0, entry);
     linear_uses::mark_burned(asset, nodes, entry, start, burned, first, tallies);
     let body = items::statements(nodes, 0, entry, start);
-    linear_uses::count_uses(body, start, reader, flags, last, tallies);
+    linear_uses::count_uses(body, start, reader, consumers, last, tallies);
 }
 
 // 60, 61 and 62 in an item, if it is an Entry. The tables are left as they were found.
@@ -45,7 +45,7 @@ fn entry(
     item: usize,
     reader: &Marks,
     burned: &mut Marks,
-    flags: &mut Flags,
+    consumers: &mut Consumers,
     places: &mut Cells,
     first: &mut Places,
     last: &mut Places,
@@ -53,9 +53,9 @@ fn entry(
     out: &mut [u16],
     count: usize,
 ) -> usize
-    requires { ⌜ LinearTables (now nodes) words (now reader) (now burned) (now places) (now first) (now last) (now tallies) × In (now nodes) 0 item × (0 < item) × Clear item (now flags) × (count < 2 ^ 49) ⌝ }
+    requires { ⌜ LinearTables (now nodes) words (now reader) (now burned) (now places) (now first) (now last) (now tallies) × In (now nodes) 0 item × (0 < item) × Clear item (now consumers) × (count < 2 ^ 49) ⌝ }
     ensures { λ r. ⌜ Adds (seenLinear (itemLinear item) nodes words reader burned places first last tallies) 3070 out count r ⌝ }
-    ensures { λ _. ⌜ CleansRows item nodes words reader burned flags places first last tallies ⌝ }
+    ensures { λ _. ⌜ CleansRows item nodes words reader burned consumers places first last tallies ⌝ }
 {
     if nodes::kind(nodes, 0, item) != ENTRY {
         return count;
@@ -69,7 +69,7 @@ fn entry(
         item,
         reader,
         burned,
-        flags,
+        consumers,
         first,
         last,
         tallies,
@@ -86,14 +86,14 @@ fn entries(
     nodes: &[u8],
     reader: &Marks,
     burned: &mut Marks,
-    flags: &mut Flags,
+    consumers: &mut Consumers,
     places: &mut Cells,
     first: &mut Places,
     last: &mut Places,
     tallies: &mut Tallies,
     out: &mut [u16],
 ) -> usize
-    requires { ⌜ LinearTables (now nodes) words (now reader) (now burned) (now places) (now first) (now last) (now tallies) × Clear 1 (now flags) ⌝ }
+    requires { ⌜ LinearTables (now nodes) words (now reader) (now burned) (now places) (now first) (now last) (now tallies) × Clear 1 (now consumers) ⌝ }
     ensures { λ r. ⌜ Adds (seenLinear linear nodes words reader burned places first last tallies) (3070 * 2048) out 0 r ⌝ }
 {
     let to = nodes::end(nodes, 0, 0);
@@ -110,7 +110,7 @@ fn entries(
             children.at,
             reader,
             burned,
-            flags,
+            consumers,
             places,
             first,
             last,
@@ -132,7 +132,7 @@ pub fn list(nodes: &[u8], words: names::Words, out: &mut [u16]) -> usize
     let mut reader = [false; Image::NAMES];
     linear_occurrences::mark_readers(words, &mut reader);
     let mut burned = [false; Image::NAMES];
-    let mut flags = [false; Image::NODES];
+    let mut consumers = [0u16; Image::NODES];
     let mut places = [0u16; 511];
     let mut first = [0u16; Image::NAMES];
     let mut last = [0u16; Image::NAMES];
@@ -142,7 +142,7 @@ pub fn list(nodes: &[u8], words: names::Words, out: &mut [u16]) -> usize
         nodes,
         &reader,
         &mut burned,
-        &mut flags,
+        &mut consumers,
         &mut places,
         &mut first,
         &mut last,

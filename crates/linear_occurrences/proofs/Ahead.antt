@@ -1,67 +1,89 @@
--- One sweep both flags and finds: a node is taken only by nodes before it, so that its flag is final when the sweep comes to it.
+-- One sweep both takes and finds: a node is taken only by nodes before it, so that its cell is final when the sweep comes to it.
 use Prim.Native.Nat.{ℕ, _+_, _-_, _≤_}
-use mathlib.Core.Path.{_≡_, ap, _∙_, sym}
-use mathlib.Core.Bool.{Bool, false}
-use mathlib.Core.List.{List}
-use native.Mathlib.Nat.{sub-self}
+use mathlib.Core.Path.{_≡_, refl, ap, _∙_, sym}
+use mathlib.Core.Bool.{Bool, false, true≢false}
+use mathlib.Core.List.{List, List·Memᴰ·head, List·Memᴰ·eq-of-singleton}
+use mathlib.Core.Logic.{⊎-elim}
 use native.Mathlib.Omega.{arith}
+use borrow.Author.Tests.{eq-eqb, ne-eqb}
 use lib.ListN.{getD}
-use Rattle.rules.specs.Sweep.{either, also, some, has}
+use Rattle.image.specs.Pick.{pick}
+use Rattle.image.proofs.Decide.{lt-or-ge}
 use Rattle.rules.specs.Tree.{Tree, ident}
-use Rattle.rules.specs.Linear.{isCounted}
-use Rattle.records.proofs.Sweep.{has-one, has-not}
+use Rattle.rules.specs.Vocabulary.{Below}
 use Rattle.nodes.specs.Shown.{In, treeOf}
-use Rattle.nodes.proofs.Names.{either-false}
 use Rattle.nodes.proofs.Parts.{inside}
-use Rattle.nodes.proofs.Marking.{some-on}
-use Rattle.linear_occurrences.specs.Counted.{Counting, Flagged, Ahead, Clear, takesNode}
-use Rattle.linear_occurrences.proofs.Flags.{flagged-none, flagged-self}
+use Rattle.nodes.proofs.Folding.{folded-none, folded-on}
+use Rattle.places.specs.declared.Note.the-variants.{Last}
+use Rattle.places.specs.Places.{noting, notes}
+use Rattle.places.proofs.Reading.{LastOr, last-or}
+use Rattle.linear_occurrences.specs.declared.Occurrence.the-variants.{Nothing}
+use Rattle.linear_occurrences.specs.Counted.{Counting, Cells, Ahead, Clear, Finding, consumedBy, takesNode, takerOf}
+use Rattle.linear_occurrences.proofs.Cells.{cells-none, cells-self}
 use Rattle.linear_occurrences.proofs.Taken.{other-takes}
-use Rattle.linear_occurrences.proofs.Counted.{some-never, untaken, counted-is}
+use Rattle.linear_occurrences.proofs.Counted.{untaken, takes-consumes, consumes-takes}
 
--- a sweep starts where no flag is set
-pub ahead-starts : (t : Tree) {base : ℕ} {r : List Bool} → Clear base r → Ahead t base base r
-unfolding some
-ahead-starts t {base} C = record { size = C .size; flag = λ i l h. C .flag i l h ∙ sym (ap (some (takesNode t i) base) (sub-self base)) }
+-- from a later node on the table has none
+pub clear-later : {p q : ℕ} {r : List ℕ} → p ≤ q → Clear p r → Clear q r
+clear-later l C = record { size = C .size; cell = λ i g h. C .cell i (omega arith) h }
 
--- no flag is set from a later node on
-pub clear-later : {p q : ℕ} {r : List Bool} → p ≤ q → Clear p r → Clear q r
-clear-later l C = record { size = C .size; flag = λ i g h. C .flag i (omega arith) h }
+module _ (t : Tree) {base : ℕ} where
+  -- a sweep starts where the table has none
+  pub ahead-starts : {r : List ℕ} → Clear base r → Ahead t base base r
+  unfolding notes
+  ahead-starts C = record { size = C .size; cell = λ i l h. C .cell i l h ∙ sym (folded-none (λ j u. noting Last u (takesNode t i j) j) 0 base) }
+
+  -- on past node p
+  pub ahead-on : {r r′ : List ℕ} {p : ℕ} → base ≤ p → Ahead t base p r → Cells (λ i. pick (takesNode t i p) p (getD r i 0)) r′ → Ahead t base (p + 1) r′
+  unfolding notes
+  ahead-on {p = p} l A C = record {
+    size = C .size;
+    cell = λ i g h.
+        C .cell i h ∙ ap (pick (takesNode t i p) p) (A .cell i (omega arith) h)
+        ∙ sym (folded-on (λ j u. noting Last u (takesNode t i j) j) 0 base p (p + 1) l (omega arith) (λ j g h. absurd (omega arith)));
+  }
+
+  -- the node that takes i, or none
+  pub taker-is : (i p : ℕ) → base ≤ p → LastOr (takesNode t i) base p (takerOf t i base p)
+  taker-is i p l = let e : base + (p - base) ≡ p = omega arith in rw e at (last-or (takesNode t i) base (p - base))
 
 module _ {nodes : List ℕ} {base : ℕ} {reader : List Bool} (T : Counting nodes base reader) where
   abbrev t : Tree
   t = treeOf (T .view)
 
-  -- no flag from the part's end on: so the next entry finds them as this one did
-  pub ahead-clear : {r : List Bool} → Ahead t base (T .view .upto) r → Clear (T .view .upto) r
-  ahead-clear A = record { size = A .size; flag = λ i l h. A .flag i l h ∙ some-never (takesNode t i) base _ (λ p a b. untaken T i p a (omega arith) (λ d. omega arith)) }
-
-  -- at node p the flag is final: the nodes from p on take none but later ones
-  pub counted-here : {r : List Bool} {p : ℕ} → In nodes base p → Ahead t base p r → getD r p false ≡ isCounted t (T .entry) p
-  counted-here {r} {p} i A =
-      let h = inside (T .view) i in
-      A .flag p (omega arith) (i .2) ∙ sym (either-false _) ∙ ap (either (some (takesNode t p) base (p - base))) (sym (untaken T p p (i .0) h (λ d. omega arith)))
-      ∙ sym (some-on (takesNode t p) base p (T .view .upto) (i .0) h (λ j l k. untaken T p j (omega arith) k (λ d. omega arith)))
-      ∙ counted-is T p
-
-  -- on past node p
-  pub ahead-on : {r r′ : List Bool} {p : ℕ} → base ≤ p → Ahead t base p r → Flagged (λ i. either (getD r i false) (takesNode t i p)) r′ → Ahead t base (p + 1) r′
-  ahead-on {r} {r′} {p} l A F = record {
-    size = F .size;
-    flag = λ i g h. F .flag i h ∙ ap (λ (x : Bool). either x (takesNode t i p)) (A .flag i (omega arith) h) ∙ sym (some-on (takesNode t i) base p (p + 1) l (omega arith) (λ j g h. absurd (omega arith)));
+  -- none from the part's end on: so the next entry finds the table as this one did
+  pub ahead-clear : {r : List ℕ} → Ahead t base (T .view .upto) r → Clear (T .view .upto) r
+  ahead-clear A = record {
+    size = A .size;
+    cell = λ i l h.
+        let u = T .view .shown .low in
+        A .cell i l h ∙ ⊎-elim (λ z. z .0) (λ f. absurd (true≢false (sym (f .0 .is) ∙ untaken T i _ (f .0 .low) (f .0 .high) (λ d. omega arith)))) (taker-is t i (T .view .upto) (omega arith));
   }
 
-  -- the answer at node p: of a node that takesNode some, of one that takesNode none, of an Ident
-  module _ {p : ℕ} (i : In nodes base p) {r : List Bool} (A : Ahead t base p r) where
-    pub found-taken : {r′ : List Bool} → (t .kind p ≡ 35 → ⊥) → Flagged (λ j. either (getD r j false) (takesNode t j p)) r′
-        → (false ≡ also (has (t .kind p) ident) (isCounted t (T .entry)) p) × Ahead t base (p + 1) r′
-    found-taken n F = (sym (ap (λ (x : Bool). also x (isCounted t (T .entry)) p) (has-not (t .kind p) 35 n)), ahead-on (i .0) A F)
+  module _ {p : ℕ} (i : In nodes base p) {r : List ℕ} (A : Ahead t base p r) where
+    -- an Ident's cell is final: the nodes from p on take none but later ones
+    finding-here : t .kind p ≡ 35 → Finding t (T .entry) p (consumedBy p (getD r p 0))
+    finding-here k = go (getD r p 0) (rw (sym (A .cell p (omega arith) (i .2))) at (taker-is t p p (i .0)))
+      where
+        below : Below t ident (T .entry) p
+        below = let a = T .first .after in let h = inside (T .view) i in let e = T .ends in let l = i .0 in record { after = omega arith; inside = omega arith; kind = List·Memᴰ·head k }
 
-    pub found-none : (t .kind p ≡ 35 → ⊥) → ((j : ℕ) → takesNode t j p ≡ false) → (false ≡ also (has (t .kind p) ident) (isCounted t (T .entry)) p) × Ahead t base (p + 1) r
-    found-none n f = found-taken n (flagged-none f (flagged-self (A .size)))
+        go : (v : ℕ) → LastOr (takesNode t p) base p v → Finding t (T .entry) p (consumedBy p v)
+        go v =
+            ⊎-elim
+            (λ z.
+            rw (eq-eqb v 0 (z .0))
+            (λ c.
+            let q = consumes-takes T (c .0) p (c .1) in
+            true≢false (sym (q .2) ∙ ⊎-elim (z .1 (c .0) (q .0)) (λ g. untaken T p (c .0) (q .0) (q .1) (λ d. let l = d .0 in omega arith)) (lt-or-ge (c .0) p))))
+            (λ f. let a = T .first .after in let l = f .0 .low in let h = f .0 .high in let u = inside (T .view) i in rw (ne-eqb v 0 (λ e. omega arith)) (refl, takes-consumes T v p l (omega arith) (f .0 .is) below))
 
-    pub found-ident : t .kind p ≡ 35 → (getD r p false ≡ also (has (t .kind p) ident) (isCounted t (T .entry)) p) × Ahead t base (p + 1) r
-    found-ident k = (
-      counted-here i A ∙ sym (ap (λ (x : Bool). also x (isCounted t (T .entry)) p) (has-one (t .kind p) 35 k)),
-      ahead-on (i .0) A (flagged-none (other-takes t p (λ e. omega arith) (λ e. omega arith)) (flagged-self (A .size))),
-    )
+    -- the answer at node p: of a node that takes some, of one that takes none, of an Ident
+    pub found-taken : {r′ : List ℕ} → (t .kind p ≡ 35 → ⊥) → Cells (λ j. pick (takesNode t j p) p (getD r j 0)) r′ → Finding t (T .entry) p Nothing × Ahead t base (p + 1) r′
+    found-taken n C = (λ c. n (List·Memᴰ·eq-of-singleton (c .1 .0 .kind)), ahead-on t (i .0) A C)
+
+    pub found-none : (t .kind p ≡ 35 → ⊥) → ((j : ℕ) → takesNode t j p ≡ false) → Finding t (T .entry) p Nothing × Ahead t base (p + 1) r
+    found-none n f = found-taken n (cells-none p (cells-self (A .size)) f)
+
+    pub found-ident : t .kind p ≡ 35 → Finding t (T .entry) p (consumedBy p (getD r p 0)) × Ahead t base (p + 1) r
+    found-ident k = (finding-here k, ahead-on t (i .0) A (cells-none p (cells-self (A .size)) (other-takes t p (λ e. omega arith) (λ e. omega arith))))

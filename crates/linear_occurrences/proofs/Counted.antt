@@ -1,39 +1,25 @@
--- What the statements of an entry take, node by node, is what the entry counts.
-use Prim.Native.Nat.{ℕ, zero, suc, _+_, _-_, _<_, _≤_}
+-- What the statements of an entry take, node by node, is what its Calls and Assigns consume.
+use Prim.Native.Nat.{ℕ, _-_, _<_, _≤_}
 use mathlib.Core.Path.{_≡_, refl, ap, _∙_, sym, subst}
 use mathlib.Core.Bool.{Bool, true, false, true≢false}
-use mathlib.Core.List.{List, List·Memᴰ}
-use mathlib.Core.Logic.{_⊎_, inl, inr, ⊎-elim}
+use mathlib.Core.List.{List, List·Memᴰ, List·Memᴰ·head, List·Memᴰ·tail, List·Memᴰ·eq-of-singleton}
+use mathlib.Core.Logic.{inl, inr, ⊎-elim}
 use native.Mathlib.Omega.{arith}
 use borrow.Author.Tests.{ltb-true, ltb-false}
 use lib.Dec.{ltb}
 use Rattle.image.specs.Admit.{nodeCount, nodesOf}
-use Rattle.rules.specs.Sweep.{some, has}
-use Rattle.rules.specs.Tree.{Tree, assign, call, statement}
-use Rattle.rules.specs.Vocabulary.{Rec, rec, only, Below, CallIn}
-use Rattle.rules.specs.Linear.{isCounted}
-use Rattle.rules.proofs.Reflect.{one-fact, Finds, tells-as, tells-either, tells-eqb, tells-has, tells-some, tells-someBelow, tells-someCall, finds-only, finds-keep, finds-run, finds-calls}
+use Rattle.rules.specs.Tree.{Tree, call, statement, ident, peels}
+use Rattle.rules.specs.Vocabulary.{Rec, rec, only, Below, CallIn, Down}
+use Rattle.rules.specs.Linear.{Consumes}
+use Rattle.rules.proofs.Reflect.{Finds, narrow, tells-has, finds-only, finds-keep, finds-run, finds-calls}
 use Rattle.nodes.specs.Shown.{View, In, treeOf}
 use Rattle.nodes.specs.First.{Starts}
-use Rattle.nodes.proofs.Parts.{whole, there, inside}
+use Rattle.nodes.proofs.Parts.{whole, there}
 use Rattle.nodes.proofs.Shapes.{ends-within}
 use Rattle.nodes.proofs.Fall.{not-so}
-use Rattle.nodes.proofs.Flat.{flat-calls, not-assign}
+use Rattle.nodes.proofs.Flat.{flat-calls}
 use Rattle.linear_occurrences.specs.Counted.{Counting, takesNode}
-use Rattle.linear_occurrences.proofs.Taken.{Consumes, Takes, tells-consumes, tells-takes, takes-after}
-
-pub some-never : (p : ℕ → Bool) (a n : ℕ) → ((i : ℕ) → a ≤ i → i < a + n → p i ≡ false) → some p a n ≡ false
-unfolding some
-some-never p a zero f = refl
-some-never p a (suc n) f = rw (some-never p a n (λ i l h. f i l (omega arith))) (f (a + n) (omega arith) (omega arith))
-
--- an Assign is a statement
-assigned : (k : ℕ) → has k assign ≡ true → has k statement ≡ true
-assigned k e = go (has k statement) refl
-  where
-    go : (b : Bool) → has k statement ≡ b → has k statement ≡ true
-    go true d = d
-    go false d = absurd (true≢false (sym e ∙ not-assign k d))
+use Rattle.linear_occurrences.proofs.Taken.{tells-takes, takes-after}
 
 module _ {nodes : List ℕ} {base : ℕ} {reader : List Bool} (T : Counting nodes base reader) where
   abbrev t : Tree
@@ -50,10 +36,10 @@ module _ {nodes : List ℕ} {base : ℕ} {reader : List Bool} (T : Counting node
   starts = let S = T .first in record { after = S .after; inside = S .inside; none = S .none; is = S .is }
 
   -- a Call from the first statement on is one of a statement
-  call-in : (c : ℕ) → base ≤ c → c < T .view .upto → has (t .kind c) call ≡ true → CallIn t (T .entry) c
+  call-in : (c : ℕ) → base ≤ c → c < T .view .upto → List·Memᴰ (t .kind c) call → CallIn t (T .entry) c
   call-in c l h k =
       let e = T .ends in
-      let m = finds-run base (t .end (T .entry) - base) (λ c. finds-keep g c (tells-has (t .kind c) call) (mine c)) .back (rec 0 c 0) (c, l, omega arith, (tells-has (t .kind c) call .so k, (refl, refl))) in
+      let m = finds-run base (t .end (T .entry) - base) (λ c. finds-keep g c (tells-has (t .kind c) call) (mine c)) .back (rec 0 c 0) (c, l, omega arith, (k, (refl, refl))) in
       let q = finds-calls t (T .entry) mine .so (rec 0 c 0) (subst (List·Memᴰ (rec 0 c 0)) (flat-calls W at-entry (T .after) (inr (T .is-entry)) starts g) m) in
       subst (CallIn t (T .entry)) (sym (ap (λ (r : Rec). r .place) (q .2 .0))) (q .1)
     where
@@ -75,36 +61,33 @@ module _ {nodes : List ℕ} {base : ℕ} {reader : List Bool} (T : Counting node
   pub untaken : (i p : ℕ) → base ≤ p → p < T .view .upto → ((p < i) × (i < T .view .upto) → ⊥) → takesNode t i p ≡ false
   untaken i p l h n = not-so (takesNode t i p) (λ e. n (takes-after (T .view) (there (T .view) l h) i (tells-takes t i p .so e)))
 
-  -- what the statements take is what the entry counts
-  pub counted-is : (i : ℕ) → some (takesNode t i) base (T .view .upto - base) ≡ isCounted t (T .entry) i
-  unfolding isCounted
-  counted-is i =
-      one-fact
-      (tells-as to fro (tells-some base (T .view .upto - base) (tells-takes t i)))
-      (tells-either (tells-someBelow t assign (T .entry) (λ s. tells-eqb _ i)) (tells-someCall t (T .entry) (tells-consumes t i)))
-    where
-      Found : Type 0
-      Found = ((s : ℕ) × Below t assign (T .entry) s × (t .end (s + 1) ≡ i)) ⊎ ((c : ℕ) × CallIn t (T .entry) c × Consumes t i c)
+  -- a node of the part that takes an Ident consumes it, and no other node does
+  pub takes-consumes : (p i : ℕ) → base ≤ p → p < T .view .upto → takesNode t i p ≡ true → Below t ident (T .entry) i → Consumes t (T .entry) p i
+  takes-consumes p i l h d b =
+      let a = T .first .after in
+      let e = T .ends in (
+        b,
+        ⊎-elim
+            (λ q. inl (record { after = omega arith; inside = omega arith; kind = q .0 }, q .1))
+            (λ q. inr (call-in p l h (q .0), q .1 .0, (q .1 .1 .0, q .1 .1 .1, subst (λ (j : ℕ). Down t peels (q .1 .1 .0) j) (q .1 .1 .2 .2) (q .1 .1 .2 .1))))
+            (tells-takes t i p .so d),
+      )
 
-      to : ((p : ℕ) × (base ≤ p) × (p < base + (T .view .upto - base)) × Takes t i p) → Found
-      to s = let a = T .first .after in let e = T .ends in let l = s .1 in let h = s .2 in
-          ⊎-elim (λ q. inl (s .0, record { after = omega arith; inside = omega arith; kind = tells-has (t .kind (s .0)) assign .so (q .0) }, q .1)) (λ q. inr (s .0, call-in (s .0) l (omega arith) (q .0), q .1)) (s .3)
-
-      fro : Found → ((p : ℕ) × (base ≤ p) × (p < base + (T .view .upto - base)) × Takes t i p)
-      fro =
-          ⊎-elim
-          (λ s.
-          let B = s .1 in
-          let l = not-before (s .0) (record { after = B .after; inside = B .inside; kind = tells-has (t .kind (s .0)) statement .so (assigned _ (tells-has (t .kind (s .0)) assign .back (B .kind))) }) in
-          let e = T .ends in
-          let h = B .inside in
-          (s .0, l, omega arith, inl (tells-has (t .kind (s .0)) assign .back (B .kind), s .2)))
-          (λ s.
-          let S = s .1 .1 in
-          let C = s .1 .2 in
-          let l = not-before (s .1 .0) S in
-          let a = C .after in
-          let h = C .inside in
-          let n = ends-within W at-entry (S .after) (S .inside) .1 in
-          let e = T .ends in
-          (s .0, omega arith, omega arith, inr (tells-has (t .kind (s .0)) call .back (C .kind), s .2)))
+  pub consumes-takes : (p i : ℕ) → Consumes t (T .entry) p i → (base ≤ p) × (p < T .view .upto) × (takesNode t i p ≡ true)
+  consumes-takes p i C =
+      let e = T .ends in
+      ⊎-elim
+      (λ q.
+      let B = q .0 in
+      let h = B .inside in
+      let l = not-before p (narrow B (List·Memᴰ·tail (List·Memᴰ·tail (List·Memᴰ·tail (List·Memᴰ·head (List·Memᴰ·eq-of-singleton (B .kind))))))) in
+      (l, omega arith, tells-takes t i p .back (inl (B .kind, q .1))))
+      (λ q.
+      let S = q .0 .1 in
+      let B = q .0 .2 in
+      let l = not-before (q .0 .0) S in
+      let a = B .after in
+      let h = B .inside in
+      let n = ends-within W at-entry (S .after) (S .inside) .1 in
+      (omega arith, omega arith, tells-takes t i p .back (inr (B .kind, (q .1, (q .2 .0, q .2 .1, (i, q .2 .2, refl)))))))
+      (C .1)

@@ -2,24 +2,22 @@
 use Prim.Native.Nat.{ℕ, suc, _+_, _-_, _<_, _≤_}
 use mathlib.Core.Path.{_≡_, refl, ap, _∙_, sym}
 use mathlib.Core.Bool.{Bool, true, false, not, true≢false}
-use mathlib.Core.List.{List, [], _∷_}
+use mathlib.Core.List.{List, List·Memᴰ, List·Memᴰ·eq-of-singleton}
 use mathlib.Core.Logic.{_⊎_, ⊎-elim}
 use native.Mathlib.Omega.{arith}
-use borrow.Author.Tests.{lt-ltb, le-ltb, ltb-true, ltb-false, eqb-true}
+use borrow.Author.Tests.{lt-ltb, le-ltb, ltb-true, ltb-false}
 use lib.Dec.{ltb, eqb}
 use Rattle.image.specs.Pick.{both}
-use Rattle.image.specs.Digits.{partAt, rowOf}
-use Rattle.image.specs.Admit.{nodesOf}
-use Rattle.image.proofs.Shape.{two}
-use Rattle.rules.specs.Sweep.{either, also, some, has}
+use Rattle.rules.specs.Sweep.{also, some, has}
 use Rattle.rules.specs.Tree.{Tree, assign, call, peels}
 use Rattle.rules.specs.Words.{readers}
 use Rattle.rules.specs.Vocabulary.{Argument, isChild, someArgument, Down, down, atBottom, Field, isField}
-use Rattle.rules.proofs.Reflect.{Tells, one-fact, tells-some, tells-both, tells-either, tells-not, tells-eqb, tells-also, tells-isField, tells-atBottom, tells-someArgument}
+use Rattle.rules.proofs.Consumers.{value-inside}
+use Rattle.rules.proofs.Reflect.{tells-has, Tells, one-fact, tells-some, tells-both, tells-either, tells-not, tells-eqb, tells-also, tells-isField, tells-atBottom, tells-someArgument}
 use Rattle.records.proofs.Sweep.{has-one, has-not}
 use Rattle.nodes.specs.Shown.{View, In, treeOf}
 use Rattle.nodes.proofs.Names.{either-false}
-use Rattle.nodes.proofs.Parts.{inside, past, there, formed}
+use Rattle.nodes.proofs.Parts.{inside, past, there}
 use Rattle.nodes.proofs.Shapes.{within, ends-within, first-inside}
 use Rattle.nodes.proofs.Children.{Reached, no-child, reached-on}
 use Rattle.linear_occurrences.specs.Counted.{takesNode, isValue, peelsTo, isTaken}
@@ -35,19 +33,17 @@ module _ (t : Tree) (a r : ℕ) (d : r ≡ down t peels a) where
   peels-so h i = rw (sym d) (simp (lt-ltb r (t .end a) h))
 
 module _ {part : List ℕ} {b p : ℕ} (W : View part b) (i : In part b p) where
-  -- the value of an Assign stands after its target: its row of document 01's table, at 5 * 27, is two expressions
+  -- the value of an Assign stands after its target
   pub value-in : treeOf W .kind p ≡ 27 → In part b (p + 1) × (p + 1 < treeOf W .end (p + 1)) × In part b (treeOf W .end (p + 1))
-  unfolding partAt
   value-in k =
       let u = inside W i in
-      let v = W .shown .high in
-      let t = two (nodesOf (W .image)) p 135 816 816 (ap rowOf k) (formed W .node p (omega arith) .children) (omega arith) refl refl refl refl refl in
-      let x = t .first .inside in
-      let y = t .first .past in
-      let z = t .second .inside in
-      let h = past W i .1 in
+      let h = W .shown .high in
+      let v = value-inside (W .image) (W .shown .admitted) p (omega arith) k in
+      let x = v .0 in
+      let y = v .1 in
+      let z = past W i .1 in
       let w = i .0 in
-      (there W (omega arith) (omega arith), y, there W (omega arith) (omega arith))
+      (there W (omega arith) (omega arith), x, there W (omega arith) (omega arith))
 
   -- the callee of a Call, and the walk over its arguments, which begins at the callee's end
   pub callee-in : treeOf W .kind p ≡ 43 → In part b (p + 1) × (p + 1 < treeOf W .end (p + 1)) × (treeOf W .end (p + 1) ≤ treeOf W .end p)
@@ -103,35 +99,22 @@ module _ (t : Tree) (p : ℕ) where
     call-takes f i = call-at i ∙ ap (λ (x : Bool). both (not x) (isTaken t i p)) f
 
 -- the facts that these tests tell
-abbrev pub Consumes : Tree → ℕ → ℕ → Type 0
-Consumes t i c = (Field t readers (c + 1) → ⊥) × ((a : ℕ) × Argument t c a × ((j : ℕ) × Down t peels a j × (j ≡ i)))
+abbrev pub CallTakes : Tree → ℕ → ℕ → Type 0
+CallTakes t i c = (Field t readers (c + 1) → ⊥) × ((a : ℕ) × Argument t c a × ((j : ℕ) × Down t peels a j × (j ≡ i)))
 
-abbrev pub Takes : Tree → ℕ → ℕ → Type 0
-Takes t i p = ((has (t .kind p) assign ≡ true) × (t .end (p + 1) ≡ i)) ⊎ ((has (t .kind p) call ≡ true) × Consumes t i p)
+abbrev pub NodeTakes : Tree → ℕ → ℕ → Type 0
+NodeTakes t i p = (List·Memᴰ (t .kind p) assign × (t .end (p + 1) ≡ i)) ⊎ (List·Memᴰ (t .kind p) call × CallTakes t i p)
 
-module _ (t : Tree) (i : ℕ) where
-  pub tells-consumes : (c : ℕ) → Tells (both (not (isField t readers (c + 1))) (isTaken t i c)) (Consumes t i c)
-  tells-consumes c = tells-both (tells-not (tells-isField t readers (c + 1))) (tells-someArgument t c (λ a. tells-atBottom t peels a (λ j. tells-eqb j i)))
-
-  pub tells-takes : (p : ℕ) → Tells (takesNode t i p) (Takes t i p)
-  tells-takes p = tells-either (tells-also (isValue t i) p (itself _) (tells-eqb _ i)) (tells-also _ p (itself _) (tells-consumes p))
-    where
-      itself : (b : Bool) → Tells b (b ≡ true)
-      itself b = record { so = λ e. e; back = λ e. e }
-
-one-kind : (k j : ℕ) → has k (j ∷ []) ≡ true → k ≡ j
-unfolding has
-one-kind k j e = eqb-true k j (go (eqb k j) e)
-  where
-    go : (x : Bool) → either x false ≡ true → x ≡ true
-    go true e = refl
-    go false e = e
+pub tells-takes : (t : Tree) (i p : ℕ) → Tells (takesNode t i p) (NodeTakes t i p)
+tells-takes t i p =
+    tells-either (tells-also (isValue t i) p (tells-has (t .kind p) assign) (tells-eqb _ i))
+    (tells-also _ p (tells-has (t .kind p) call) (tells-both (tells-not (tells-isField t readers (p + 1))) (tells-someArgument t p (λ a. tells-atBottom t peels a (λ j. tells-eqb j i)))))
 
 -- what a node takes stands after it, and in the part
-pub takes-after : {part : List ℕ} {b p : ℕ} (W : View part b) → In part b p → (i : ℕ) → Takes (treeOf W) i p → (p < i) × (i < W .upto)
+pub takes-after : {part : List ℕ} {b p : ℕ} (W : View part b) → In part b p → (i : ℕ) → NodeTakes (treeOf W) i p → (p < i) × (i < W .upto)
 takes-after {p = p} W h i =
     ⊎-elim
-    (λ s. let v = value-in W h (one-kind _ 27 (s .0)) in let x = v .1 in let y = inside W (v .2) in let e = s .1 in (omega arith, omega arith))
+    (λ s. let v = value-in W h (List·Memᴰ·eq-of-singleton (s .0)) in let x = v .1 in let y = inside W (v .2) in let e = s .1 in (omega arith, omega arith))
     (λ s.
     let a = s .1 .1 .0 in
     let A = s .1 .1 .1 in

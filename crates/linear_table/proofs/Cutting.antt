@@ -27,7 +27,7 @@ cutting-starts {s} H = record {
 }
 
 module _ {s table : List ℕ} {total p : ℕ} (K : Cutting s table total p) where
-  module _ {table′ : List ℕ} {burned flags : List Bool} {places first last tallies : List ℕ} {r : Stood} (I : ItemStands s p total table table′ burned flags places first last tallies r) where
+  module _ {table′ : List ℕ} {burned : List Bool} {consumers places first last tallies : List ℕ} {r : Stood} (I : ItemStands s p total table table′ burned consumers places first last tallies r) where
     pub cutting-on : {q : ℕ} → r .alias ≡ 0 → 1 ≤ p → p < q → ((i : ℕ) → p < i → i < q → has (tree s .kind i) entries ≡ false) → Cutting s table′ (r .rows) q
     cutting-on {q} e l h z =
         let m : run (itemRows s) 1 (q - 1) ≡ run (itemRows s) 1 (p - 1) ++ itemRows s p = run-on (itemRows s) 1 p q l h (λ i a b. keep-none (entryRows s) i (z i a b)) in

@@ -24,9 +24,9 @@ module _ (s : List ℕ) (p : ℕ) (k : tree s .kind p ≡ 9) where
   first60-as : {r : ℕ} → First60 (entry60s (tree s) p) r → First60 (item60s (tree s) p) r
   first60-as F = record { none = λ e. sixties ∙ F .none e; some = λ l. (F .some l .0, sixties ∙ F .some l .1) }
 
-module _ {s : List ℕ} {p total : ℕ} {table : List ℕ} {burned flags : List Bool} {places first last tallies : List ℕ} where
-  pub item-other : (tree s .kind p ≡ 9 → ⊥) → Clean s burned places first last tallies → Clear (tree s .end p) flags → 4 * total < tree s .end p
-      → ItemStands s p total table table burned flags places first last tallies (record { rows = total; alias = 0 })
+module _ {s : List ℕ} {p total : ℕ} {table : List ℕ} {burned : List Bool} {consumers places first last tallies : List ℕ} where
+  pub item-other : (tree s .kind p ≡ 9 → ⊥) → Clean s burned places first last tallies → Clear (tree s .end p) consumers → 4 * total < tree s .end p
+      → ItemStands s p total table table burned consumers places first last tallies (record { rows = total; alias = 0 })
   item-other n C F h = record {
     small = omega arith;
     first60 = record { none = λ e. keep-none (entry60s (tree s)) p (has-not (tree s .kind p) 9 n); some = λ l. absurd (omega arith) };
@@ -42,7 +42,7 @@ module _ {s : List ℕ} {p total : ℕ} {table : List ℕ} {burned flags : List 
       none = keep-none (entryRows s) p (has-not (tree s .kind p) 9 n)
 
   module _ (k : tree s .kind p ≡ 9) where
-    pub item-stops : {alias : ℕ} → (alias ≡ 0 → ⊥) → alias < 65536 → First60 (entry60s (tree s) p) alias → ItemStands s p total table table burned flags places first last tallies (record { rows = total; alias = alias })
+    pub item-stops : {alias : ℕ} → (alias ≡ 0 → ⊥) → alias < 65536 → First60 (entry60s (tree s) p) alias → ItemStands s p total table table burned consumers places first last tallies (record { rows = total; alias = alias })
     item-stops n h F = record {
       small = h;
       first60 = first60-as s p k F;
@@ -55,8 +55,8 @@ module _ {s : List ℕ} {p total : ℕ} {table : List ℕ} {burned flags : List 
     }
 
     pub item-stood : {table′ : List ℕ} {alias n : ℕ} → First60 (entry60s (tree s) p) alias → alias ≡ 0 → ((rows : List Row) → length rows ≡ total → Holds rows table → Holds (rows ++ entryRows s p) table′)
-        → n ≡ length (entryRows s p) → 4 * (total + n) < tree s .end p → Clean s burned places first last tallies → Clear (tree s .end p) flags
-        → ItemStands s p total table table′ burned flags places first last tallies (record { rows = total + n; alias = 0 })
+        → n ≡ length (entryRows s p) → 4 * (total + n) < tree s .end p → Clean s burned places first last tallies → Clear (tree s .end p) consumers
+        → ItemStands s p total table table′ burned consumers places first last tallies (record { rows = total + n; alias = 0 })
     item-stood {n = n} F z G c h C D = record {
       small = omega arith;
       first60 = first60-as s p k (rw z at F);

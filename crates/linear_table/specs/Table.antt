@@ -100,7 +100,7 @@ abbrev pub rowsBy : {nodes places : List ℕ} {n : ℕ} → Placed nodes n place
 rowsBy {places = places} T tallies k = rowBy (T .view .image) (getD (rowsOf (T .entry) (treeOf (T .view))) k 0) (getD places k 0) (marksAt tallies k) (countAt tallies k) ∷ []
 
 -- an item's rows follow the `total` rows before, and all tables are clean again; or it has a 60, and the table stays
-pub record ItemStands (s : List ℕ) (p total : ℕ) (table table′ : List ℕ) (burned flags : List Bool) (places first last tallies : List ℕ) (r : Stood) : Type 0 where
+pub record ItemStands (s : List ℕ) (p total : ℕ) (table table′ : List ℕ) (burned : List Bool) (consumers places first last tallies : List ℕ) (r : Stood) : Type 0 where
   pub small : r .alias < 65536
   pub first60 : First60 (item60s (tree s) p) (r .alias)
   pub same : 0 < r .alias → table′ ≡ table
@@ -108,4 +108,4 @@ pub record ItemStands (s : List ℕ) (p total : ℕ) (table table′ : List ℕ)
   pub counted : r .alias ≡ 0 → r .rows ≡ total + length (itemRows s p)
   pub room : r .alias ≡ 0 → 4 * r .rows < tree s .end p
   pub clean : r .alias ≡ 0 → Clean s burned places first last tallies
-  pub clear : r .alias ≡ 0 → Clear (tree s .end p) flags
+  pub clear : r .alias ≡ 0 → Clear (tree s .end p) consumers

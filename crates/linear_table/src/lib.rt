@@ -1,7 +1,7 @@
 // The table of tracked rows of a contract in plain cells ("Linear" of document 01): the rows of its entries in order, up to the first entry that has a 60, which is an offence before those of its rows and of all entries after it.
 use image::Admission;
 use image::Image;
-use linear_occurrences::Flags;
+use linear_occurrences::Consumers;
 use linear_parts::Words;
 use linear_rows::Tallies;
 use linear_tracked::Cells;
@@ -128,7 +128,7 @@ fn entry(
     item: usize,
     reader: &Marks,
     burned: &mut Marks,
-    flags: &mut Flags,
+    consumers: &mut Consumers,
     places: &mut Cells,
     first: &mut Places,
     last: &mut Places,
@@ -136,8 +136,8 @@ fn entry(
     table: &mut Table,
     total: usize,
 ) -> Stood
-    requires { ⌜ LinearTables (now nodes) words (now reader) (now burned) (now places) (now first) (now last) (now tallies) × In (now nodes) 0 item × (0 < item) × Clear item (now flags) × (4 * total < item) ⌝ }
-    ensures { λ r. ⌜ ((T : LinearTables (old nodes) words (old reader) (old burned) (old places) (old first) (old last) (old tallies)) → ItemStands (T .known .view .image) item total (old table) (new table) (new burned) (new flags) (new places) (new first) (new last) (new tallies) r) ⌝ }
+    requires { ⌜ LinearTables (now nodes) words (now reader) (now burned) (now places) (now first) (now last) (now tallies) × In (now nodes) 0 item × (0 < item) × Clear item (now consumers) × (4 * total < item) ⌝ }
+    ensures { λ r. ⌜ ((T : LinearTables (old nodes) words (old reader) (old burned) (old places) (old first) (old last) (old tallies)) → ItemStands (T .known .view .image) item total (old table) (new table) (new burned) (new consumers) (new places) (new first) (new last) (new tallies) r) ⌝ }
 {
     if nodes::kind(nodes, 0, item) != ENTRY {
         return Stood {
@@ -157,7 +157,7 @@ fn entry(
         item,
         reader,
         burned,
-        flags,
+        consumers,
         first,
         last,
         tallies,
@@ -177,14 +177,14 @@ fn entries(
     nodes: &[u8],
     reader: &Marks,
     burned: &mut Marks,
-    flags: &mut Flags,
+    consumers: &mut Consumers,
     places: &mut Cells,
     first: &mut Places,
     last: &mut Places,
     tallies: &mut Tallies,
     table: &mut Table,
 ) -> usize
-    requires { ⌜ LinearTables (now nodes) words (now reader) (now burned) (now places) (now first) (now last) (now tallies) × Clear 1 (now flags) × Holds [] (now table) ⌝ }
+    requires { ⌜ LinearTables (now nodes) words (now reader) (now burned) (now places) (now first) (now last) (now tallies) × Clear 1 (now consumers) × Holds [] (now table) ⌝ }
     ensures { λ r. ⌜ (r < 65536) × ((T : LinearTables (old nodes) words (old reader) (old burned) (old places) (old first) (old last) (old tallies)) → Cut (T .known .view .image) (new table) r) ⌝ }
 {
     let to = nodes::end(nodes, 0, 0);
@@ -201,7 +201,7 @@ fn entries(
             children.at,
             reader,
             burned,
-            flags,
+            consumers,
             places,
             first,
             last,
@@ -230,7 +230,7 @@ fn tracked(image: &[u8], head: Image) -> Table
     let mut reader = [false; Image::NAMES];
     linear_occurrences::mark_readers(words, &mut reader);
     let mut burned = [false; Image::NAMES];
-    let mut flags = [false; Image::NODES];
+    let mut consumers = [0u16; Image::NODES];
     let mut places = [0u16; 511];
     let mut first = [0u16; Image::NAMES];
     let mut last = [0u16; Image::NAMES];
@@ -241,7 +241,7 @@ fn tracked(image: &[u8], head: Image) -> Table
         nodes,
         &reader,
         &mut burned,
-        &mut flags,
+        &mut consumers,
         &mut places,
         &mut first,
         &mut last,

@@ -10,11 +10,13 @@ use Rattle.rules.specs.Words.{Q-Asset}
 use Rattle.rules.specs.Vocabulary.{alone, below, someBelow, named}
 use Rattle.rules.specs.Linear.{isBurned, isCounted}
 use Rattle.records.specs.Words.{Lent, old, new}
-use Rattle.nodes.specs.Shown.{View, treeOf}
+use Rattle.nodes.specs.Shown.{View, Worded, treeOf}
 use Rattle.nodes.specs.Marks.{Marks}
 use Rattle.names.specs.Found.{Numbered}
 use Rattle.places.specs.Places.{Places}
-use Rattle.linear_occurrences.specs.Counted.{Counting}
+use Rattle.linear_occurrences.specs.declared.Occurrence.{Occurrence}
+use Rattle.linear_occurrences.specs.declared.Occurrence.the-variants.{Nothing, Consumed}
+use Rattle.linear_occurrences.specs.Counted.{Counting, forIdent}
 use Rattle.linear_rows.specs.Tallies.{marksAt, countAt, Tallied}
 
 -- each row has room for one more mark, for one more counted occurrence
@@ -72,14 +74,19 @@ pub record Using (nodes : List ℕ) (base : ℕ) (reader : List Bool) (rows : Li
   pub noted : Places (counting .view .image) row-of rows
   pub few : (w : List ℕ) → row-of w ≤ maxRows
 
--- a function that is lent the rows puts x on the row that the table notes for a word, as a mark, while there is no occurrence, or as a
--- counted occurrence
+-- a function that is lent the rows puts x on the row that the table notes for a word, as a mark, while there is no occurrence; or the
+-- Ident that was found, as a counted occurrence
 abbrev pub Marks-one : {nodes : List ℕ} {base : ℕ} {rows : List ℕ} → OnRows nodes base rows → ℕ → Lent (List ℕ) → Type 0
 Marks-one T p tallies =
     (M : ℕ → List ℕ) (x : ℕ) → Tallied M (λ r. []) (old tallies)
     → Tallied (λ r. M r ++ onRow (T .row-of) r (treeOf (T .view) .text p) x) (λ r. []) (new tallies)
 
-abbrev pub Uses-one : {nodes : List ℕ} {base : ℕ} {rows : List ℕ} → OnRows nodes base rows → Bool → ℕ → Lent (List ℕ) → Type 0
-Uses-one T hit p tallies =
+abbrev pub Uses-one : {nodes : List ℕ} {base : ℕ} {rows : List ℕ} → OnRows nodes base rows → Occurrence → Lent (List ℕ) → Type 0
+Uses-one T found tallies =
     (M U : ℕ → List ℕ) → Tallied M U (old tallies)
-    → Tallied M (λ r. U r ++ keep hit (onRow (T .row-of) r (treeOf (T .view) .text p)) p) (new tallies)
+    → Tallied M (λ r. U r ++ forIdent found (λ i. onRow (T .row-of) r (treeOf (T .view) .text i) i)) (new tallies)
+
+-- the Ident that was found, if one was, is a word of the part
+abbrev pub Spoken : List ℕ → ℕ → Occurrence → Type 0
+Spoken nodes base Nothing = Unit {0}
+Spoken nodes base (Consumed i c) = Worded nodes base i

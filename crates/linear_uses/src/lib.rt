@@ -1,5 +1,6 @@
 // Marks and occurrences on the tracked rows: "Burn mark" and "Counted occurrences" of document 01, and which occurrence 62 is related to (E4 of document 02).
-use linear_occurrences::Flags;
+use linear_occurrences::Consumers;
+use linear_occurrences::Occurrence;
 use linear_rows::COUNT;
 use linear_rows::MARKS;
 use linear_rows::RELATED;
@@ -10,7 +11,7 @@ use nodes::Marks;
 use nodes::PARAM;
 use places::Places;
 ghost use mathlib.Core.Path.{_≡_};
-ghost use mathlib.Core.Bool.{Bool, true, false};
+ghost use mathlib.Core.Bool.{Bool, false};
 ghost use mathlib.Core.List.{List, [], _++_};
 ghost use Prim.Native.Nat.{ℕ, _+_, _*_, _<_};
 ghost use lib.Dec.{eqb};
@@ -21,7 +22,7 @@ ghost use Rattle.nodes.specs.Marks.{Marks};
 ghost use Rattle.nodes.specs.First.{Head};
 ghost use Rattle.linear_occurrences.specs.Counted.{Clear};
 ghost use Rattle.linear_rows.specs.Tallies.{marksAt, countAt, relatedTurn, Tallied, Blank};
-ghost use Rattle.linear_uses.specs.Uses.{SpareMarks, SpareCounts, OnRows, Burning, Unburned, Using, Marks-one, Uses-one, burnAt, burnsOn, usesOn};
+ghost use Rattle.linear_uses.specs.Uses.{SpareMarks, SpareCounts, OnRows, Burning, Unburned, Using, Marks-one, Uses-one, Spoken, burnAt, burnsOn, usesOn};
 
 // One more in a cell of a row.
 fn add_one(tallies: &mut Tallies, row: usize, field: usize)
@@ -125,43 +126,43 @@ fn is_related(tallies: &Tallies, row: usize) -> bool
     count == 1
 }
 
-// A counted occurrence, if p is one, on the row that the table notes for its word, and the related word of that row.
-fn use_row(hit: bool, nodes: &[u8], base: usize, p: usize, rows: &Places, tallies: &mut Tallies)
-    requires { ⌜ OnRows (now nodes) base (now rows) × In (now nodes) base p × (hit ≡ true → Worded (now nodes) base p) × SpareCounts (now tallies) ⌝ }
-    ensures { λ _. ⌜ ((T : OnRows (old nodes) base (old rows)) → Uses-one T hit p tallies) ⌝ }
+// A counted occurrence, if one was found, on the row that the table notes for its word, and the related word of that row.
+fn use_row(found: Occurrence, nodes: &[u8], base: usize, rows: &Places, tallies: &mut Tallies)
+    requires { ⌜ OnRows (now nodes) base (now rows) × Spoken (now nodes) base found × SpareCounts (now tallies) ⌝ }
+    ensures { λ _. ⌜ ((T : OnRows (old nodes) base (old rows)) → Uses-one T found tallies) ⌝ }
 {
-    if !hit {
+    let Occurrence::Consumed { ident, .. } = found else {
         return;
-    }
-    let row = places::at(rows, nodes, base, p);
+    };
+    let row = places::at(rows, nodes, base, ident);
     if row == 0 {
         return;
     }
     add_one(tallies, row - 1, COUNT);
     if is_related(tallies, row - 1) {
-        tallies[3 * (row - 1) + RELATED] = p as u16;
+        tallies[3 * (row - 1) + RELATED] = ident as u16;
     }
 }
 
-// The counted occurrences in an entry's statements, lent as their own part of the node area, which starts with number `base`: one sweep that flags what is taken and counts it, each on the last row of its name.
+// The counted occurrences in an entry's statements, lent as their own part of the node area, which starts with number `base`: one sweep that finds them, each with its consumer, and counts each on the last row of its name.
 pub fn count_uses(
     nodes: &[u8],
     base: usize,
     reader: &Marks,
-    flags: &mut Flags,
+    consumers: &mut Consumers,
     rows: &Places,
     tallies: &mut Tallies,
 )
-    requires { ⌜ Using (now nodes) base (now reader) (now rows) × Clear base (now flags) × ((M : ℕ → List ℕ) × Tallied M (λ r. []) (now tallies)) ⌝ }
-    ensures { λ _. ⌜ ((T : Using (old nodes) base (old reader) (old rows)) → Clear (T .counting .view .upto) (new flags)
+    requires { ⌜ Using (now nodes) base (now reader) (now rows) × Clear base (now consumers) × ((M : ℕ → List ℕ) × Tallied M (λ r. []) (now tallies)) ⌝ }
+    ensures { λ _. ⌜ ((T : Using (old nodes) base (old reader) (old rows)) → Clear (T .counting .view .upto) (new consumers)
         × ((M : ℕ → List ℕ) → Tallied M (λ r. []) (old tallies)
         → Tallied M (usesOn (treeOf (T .counting .view)) (T .counting .entry) (T .row-of) base (T .counting .view .upto)) (new tallies))) ⌝ }
 {
     let end = base + nodes.len() / 16;
     let mut p = base;
     while p < end {
-        let hit = linear_occurrences::is_counted(nodes, base, p, reader, flags);
-        use_row(hit, nodes, base, p, rows, tallies);
+        let found = linear_occurrences::occurrence_at(nodes, base, p, reader, consumers);
+        use_row(found, nodes, base, rows, tallies);
         p += 1;
     }
 }

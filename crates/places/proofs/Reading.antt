@@ -22,18 +22,18 @@ use Rattle.places.specs.Places.{Places, noting, notes, notesBelow, isNam
 -- Numbers
 
 -- none from a up to e passes; v is the first, the last that does
-abbrev None : (ℕ → Bool) → ℕ → ℕ → Type 0
+abbrev pub None : (ℕ → Bool) → ℕ → ℕ → Type 0
 None p a e = (j : ℕ) → a ≤ j → j < e → p j ≡ false
 
-record Found (p : ℕ → Bool) (a e v : ℕ) : Type 0 where
-  is : p v ≡ true
-  low : a ≤ v
-  high : v < e
+pub record Found (p : ℕ → Bool) (a e v : ℕ) : Type 0 where
+  pub is : p v ≡ true
+  pub low : a ≤ v
+  pub high : v < e
 
 abbrev FirstOr : (ℕ → Bool) → ℕ → ℕ → ℕ → Type 0
 FirstOr p a e v = ((v ≡ 0) × None p a e) ⊎ (Found p a e v × None p a v)
 
-abbrev LastOr : (ℕ → Bool) → ℕ → ℕ → ℕ → Type 0
+abbrev pub LastOr : (ℕ → Bool) → ℕ → ℕ → ℕ → Type 0
 LastOr p a e v = ((v ≡ 0) × None p a e) ⊎ (Found p a e v × None p (suc v) e)
 
 module _ (p : ℕ → Bool) (a : ℕ) where
@@ -57,7 +57,7 @@ module _ (p : ℕ → Bool) (a : ℕ) where
       go v true e (inr h) = let l = h .0 .low in rw (ne-eqb v 0 (λ q. omega arith)) (inr (found-more n v (h .0), h .1))
       go v false e (inr h) = inr (found-more n v (h .0), h .1)
 
-  last-or : (n : ℕ) → LastOr p a (a + n) (notes Last p 0 a n)
+  pub last-or : (n : ℕ) → LastOr p a (a + n) (notes Last p 0 a n)
   unfolding notes folded
   last-or zero = inl (refl, λ j l h. absurd (omega arith))
   last-or (suc n) = go (notes Last p 0 a n) (p (a + n)) refl (last-or n)

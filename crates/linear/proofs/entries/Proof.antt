@@ -19,12 +19,12 @@ use Rattle.linear.proofs.entries.Statement.{statement}
 use Rattle.linear.proofs.entries.Tie as tie
 
 abbrev Inv-loop : tie.InvT-loop
-Inv-loop words nodes reader burned₀ flags₀ places₀ first₀ last₀ tallies₀ out₀ to total₀ children₀ burned flags places first last tallies out total children =
+Inv-loop words nodes reader burned₀ consumers₀ places₀ first₀ last₀ tallies₀ out₀ to total₀ children₀ burned consumers places first last tallies out total children =
     Over 0 to children × Span nodes 0 1 to × Sweeping (λ (T : LinearTables nodes words reader burned₀ places₀ first₀ last₀ tallies₀) i. itemLinear i (treeOf (T .known .view))) 1 to 3070 out₀ 0 out total (children .at)
-    × ((T : LinearTables nodes words reader burned₀ places₀ first₀ last₀ tallies₀) → Clean (T .known .view .image) burned places first last tallies × Clear (children .at) flags)
+    × ((T : LinearTables nodes words reader burned₀ places₀ first₀ last₀ tallies₀) → Clean (T .known .view .image) burned places first last tallies × Clear (children .at) consumers)
 
 abbrev μ-loop : tie.MeasureT-loop
-μ-loop words nodes reader burned₀ flags₀ places₀ first₀ last₀ tallies₀ out₀ to total₀ children₀ burned flags places first last tallies out total children = to - children .at
+μ-loop words nodes reader burned₀ consumers₀ places₀ first₀ last₀ tallies₀ out₀ to total₀ children₀ burned consumers places first last tallies out total children = to - children .at
 
 loop-holds : tie.Need-loop-holds Inv-loop μ-loop
 loop-holds c = let d = c .before .before .before .pre in let T = d .0 in let S = span-below (T .known .view) (T .root) (c .end .ensures (T .known .view)) in (record { part = refl; last = refl }, S, sweep-starts (S .order), λ T. (T .clean, d .1))

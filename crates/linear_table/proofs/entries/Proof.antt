@@ -16,12 +16,12 @@ use Rattle.linear_table.proofs.entries.Statement.{statement}
 use Rattle.linear_table.proofs.entries.Tie as tie
 
 abbrev Inv-loop : tie.InvT-loop
-Inv-loop words nodes reader burned₀ flags₀ places₀ first₀ last₀ tallies₀ table₀ to total₀ children₀ burned flags places first last tallies table total children =
+Inv-loop words nodes reader burned₀ consumers₀ places₀ first₀ last₀ tallies₀ table₀ to total₀ children₀ burned consumers places first last tallies table total children =
     Over 0 to children × Span nodes 0 1 to × (1 ≤ children .at) × (children .at ≤ to) × (4 * total < children .at)
-    × ((T : LinearTables nodes words reader burned₀ places₀ first₀ last₀ tallies₀) → Clean (T .known .view .image) burned places first last tallies × Clear (children .at) flags × Cutting (T .known .view .image) table total (children .at))
+    × ((T : LinearTables nodes words reader burned₀ places₀ first₀ last₀ tallies₀) → Clean (T .known .view .image) burned places first last tallies × Clear (children .at) consumers × Cutting (T .known .view .image) table total (children .at))
 
 abbrev μ-loop : tie.MeasureT-loop
-μ-loop words nodes reader burned₀ flags₀ places₀ first₀ last₀ tallies₀ table₀ to total₀ children₀ burned flags places first last tallies table total children = to - children .at
+μ-loop words nodes reader burned₀ consumers₀ places₀ first₀ last₀ tallies₀ table₀ to total₀ children₀ burned consumers places first last tallies table total children = to - children .at
 
 loop-holds : tie.Need-loop-holds Inv-loop μ-loop
 loop-holds c = let d = c .before .before .pre in let T = d .0 in let S = span-below (T .known .view) (T .root) (c .end .ensures (T .known .view)) in (record { part = refl; last = refl }, S, omega arith, S .order, omega arith, λ T. (T .clean, d .1, cutting-starts (d .2)))
