@@ -28,13 +28,23 @@ pub fn damaged_image(seed: u64, index: u64) -> Vec<u8> {
     damaged(&mut rng, &image)
 }
 
+/// By hand, then admitted ones.
+pub fn by_hand_and_admitted(range: Range) -> impl Iterator<Item = (String, Vec<u8>)> {
+    let generated = (0..range.images).map(move |index| labelled(range.seed, index));
+    by_hand().into_iter().chain(generated)
+}
+
 /// Every class: by hand, then three admitted ones to each damaged one.
 pub fn all_classes(range: Range) -> impl Iterator<Item = (String, Vec<u8>)> {
     let generated = (0..range.images).map(move |index| match index % 4 {
         3 => (format!("damaged image {index} of seed {}", range.seed), damaged_image(range.seed, index)),
-        _ => (format!("image {index} of seed {}", range.seed), admitted_image(range.seed, index)),
+        _ => labelled(range.seed, index),
     });
     by_hand().into_iter().chain(generated)
+}
+
+fn labelled(seed: u64, index: u64) -> (String, Vec<u8>) {
+    (format!("image {index} of seed {seed}"), admitted_image(seed, index))
 }
 
 /// Names to ask about: each of an admitted image, the same in the other case, its prefixes, names

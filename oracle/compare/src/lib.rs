@@ -1,7 +1,9 @@
 //! The comparisons: the reference against the published Rust (`rust`), against what document 01
-//! says by hand (`patterns`), against the report program (`report`) and against the proved library
-//! (`port`); and the page's crate against the published Rust (`page`).
+//! says by hand (`patterns`), against the report program (`report`), against the proved library
+//! (`port`) and, in what consumes a counted occurrence, against a way of its own (`consumers`); and
+//! the page's crate against the published Rust (`page`).
 
+pub mod consumers;
 pub mod images;
 pub mod judge;
 pub mod page;

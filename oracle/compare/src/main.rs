@@ -1,5 +1,5 @@
-//! `compare rust | patterns | report PATH | port | page | show FILE`: see `compare` without a word for
-//! the options.
+//! `compare rust | patterns | consumers | report PATH | port | page | show FILE`: see `compare` without a
+//! word for the options.
 
 use compare::images::Range;
 use std::process::ExitCode;
@@ -9,6 +9,8 @@ compare rust [--images N] [--seed S]
     the reference against the published Rust
 compare patterns
     what document 01 says by hand against both
+compare consumers [--images N] [--seed S]
+    what the reference finds to consume each counted occurrence against what one finds on the way up
 compare report PATH [--status] [--images N] [--seed S]
     the reference against the report program at PATH, and against its exit status where that is asked for
 compare port [--what GROUP,GROUP..] [--images N] [--seed S]
@@ -30,6 +32,7 @@ fn run(arguments: &[String]) -> Result<String, String> {
     match words.as_slice() {
         ["rust", options @ ..] => compare::rust::run(range(options, 200_000)?),
         ["patterns"] => compare::patterns::run(),
+        ["consumers", options @ ..] => compare::consumers::run(range(options, 100_000)?),
         ["report", path, "--status", options @ ..] => {
             compare::report::run(path, true, range(options, 2_000)?)
         }

@@ -2,7 +2,7 @@
 //! passes: code, place and span of each pass, the first offence of each in the list, and acceptance.
 //! What an image does not carry is put into the contracts at random, and both sides see it.
 
-use crate::images::{Range, admitted_image, by_hand};
+use crate::images::{Range, by_hand_and_admitted};
 use crate::judge;
 use crate::mismatch::{Mismatch, differ, same, shown};
 use crate::tally::Tally;
@@ -15,9 +15,7 @@ use reference::Pass;
 /// Runs the comparison; the text is what to print, and an `Err` is a failure.
 pub fn run(range: Range) -> Result<String, String> {
     let mut tally = Tally::new();
-    let generated = (0..range.images)
-        .map(|index| (format!("image {index} of seed {}", range.seed), admitted_image(range.seed, index)));
-    for (label, image) in by_hand().into_iter().chain(generated) {
+    for (label, image) in by_hand_and_admitted(range) {
         match compared(&image) {
             Ok(Ok(report)) => note(&mut tally, &report),
             Ok(Err(refusal)) => tally.refused(refusal.number()),

@@ -42,25 +42,16 @@ impl Tally {
         }
     }
 
-    /// What a comparison that met no mismatch has to print: the table, or what came too seldom.
+    /// What the comparison has to print: the table, or what came too seldom.
     pub fn finish(&self) -> Result<String, String> {
-        let few = self.too_few();
-        if few.is_empty() {
-            Ok(format!("{}no mismatch\n", self.table()))
-        } else {
-            Err(format!("{}too few:\n{}\n", self.table(), few.join("\n")))
-        }
+        outcome(self.table(), self.wanted())
     }
 
-    /// What came too seldom: a code as the first of its pass under once in 500 admitted images,
-    /// an acceptance under once in 10, a refusal under once in 200 refused images.
-    fn too_few(&self) -> Vec<String> {
-        let mut few = Vec::new();
-        let mut want = |what: String, count: u64, least: u64| {
-            if count < least.max(1) {
-                few.push(format!("{what}: {count}, and {least} are wanted"));
-            }
-        };
+    /// A code as the first of its pass once in 500 admitted images, an acceptance once in 10, a
+    /// refusal once in 200 refused images.
+    fn wanted(&self) -> Vec<Wanted> {
+        let mut wanted = Vec::new();
+        let mut want = |what: String, count: u64, least: u64| wanted.push((what, count, least));
         for code in CODES {
             let count = self.first[code as usize];
             want(format!("code {code} as the first of its pass"), count, self.admitted / 500);
@@ -72,7 +63,7 @@ impl Tally {
         for refusal in 1..=8 {
             want(format!("refusal {refusal}"), self.refusals[refusal], self.refused / 200);
         }
-        few
+        wanted
     }
 
     /// The table that is printed.
@@ -92,5 +83,22 @@ impl Tally {
         line(format!("refusals {}", refusals.join(", ")));
         line(format!("longest list {}", self.longest));
         out
+    }
+}
+
+/// What a comparison must have met, how often it came, and how often it is wanted at the least.
+pub type Wanted = (String, u64, u64);
+
+/// What a comparison that met no mismatch has to print: what it saw, or what of it came too seldom.
+pub fn outcome(seen: String, wanted: impl IntoIterator<Item = Wanted>) -> Result<String, String> {
+    let too_few = |(what, count, least): Wanted| {
+        let least = least.max(1);
+        (count < least).then(|| format!("{what}: {count}, and {least} are wanted"))
+    };
+    let few: Vec<String> = wanted.into_iter().filter_map(too_few).collect();
+    if few.is_empty() {
+        Ok(format!("{seen}no mismatch\n"))
+    } else {
+        Err(format!("{seen}too few:\n{}\n", few.join("\n")))
     }
 }

@@ -3,8 +3,8 @@
 //! not from the published Rust, so that the two can judge each other.
 //!
 //! `admission` holds refusals 1 to 8, `model` the three questions, `resolve`, `access` and
-//! `linear` the offences, `report` the program's text; this file holds what the public functions
-//! answer.
+//! `linear` the offences (`linear` also what consumes a counted occurrence), `report` the program's
+//! text; this file holds what the public functions answer.
 
 pub mod admission;
 pub mod image;
@@ -20,6 +20,7 @@ mod signature;
 
 pub use admission::{admit, refusal};
 pub use form::kind;
+pub use linear::{Occurrence, counted_occurrences};
 pub use model::Model;
 pub use record::Record;
 pub use report::report;

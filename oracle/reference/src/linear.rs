@@ -1,4 +1,5 @@
-//! Document 01, "Linear, entry by entry": codes 60, 61 and 62.
+//! Document 01, "Linear, entry by entry": codes 60, 61 and 62. Document 02, request E5: what
+//! consumes a counted occurrence.
 
 use crate::kind::*;
 use crate::model::asset_inner;
@@ -10,7 +11,15 @@ struct Row<'a> {
     name: &'a [u8],
     place: usize,
     marks: usize,
-    occurrences: Vec<usize>,
+    occurrences: Vec<Occurrence>,
+}
+
+/// Request E5, name the call, too: "The finding of a counted occurrence shall answer with both the
+/// Ident and the node that consumes it: the Call, or the Assign for a bare value."
+#[derive(Clone, Copy, Debug, PartialEq, Eq)]
+pub struct Occurrence {
+    pub ident: usize,
+    pub consumer: usize,
 }
 
 pub fn linear(tree: &Tree) -> Records {
@@ -19,7 +28,7 @@ pub fn linear(tree: &Tree) -> Records {
         aliases(tree, entry, &mut out);
         let mut rows = tracked(tree, entry);
         burn_marks(tree, entry, &mut rows);
-        counted_occurrences(tree, entry, &mut rows);
+        count(tree, entry, &mut rows);
         uses(&rows, &mut out);
     }
     out
@@ -90,42 +99,48 @@ fn burn_marks(tree: &Tree, entry: usize, rows: &mut [Row]) {
 }
 
 /// "Counted occurrences, on the last row of the name"
-fn counted_occurrences(tree: &Tree, entry: usize, rows: &mut [Row]) {
-    let statements = tree.statements(entry);
-    let mut idents: Vec<usize> = Vec::new();
-    for statement in statements {
-        idents.extend(counted_value(tree, statement));
-        for call in tree.within(statement, CALL) {
-            idents.extend(counted_arguments(tree, call));
-        }
-    }
-    idents.sort();
-    for ident in idents {
-        let text = tree.text(ident);
+fn count(tree: &Tree, entry: usize, rows: &mut [Row]) {
+    for occurrence in counted_occurrences(tree, entry) {
+        let text = tree.text(occurrence.ident);
         if let Some(row) = rows.iter_mut().rev().find(|row| row.name == text) {
-            row.occurrences.push(ident);
+            row.occurrences.push(occurrence);
         }
     }
 }
 
-/// "an Assign value that is a bare Ident"
-fn counted_value(tree: &Tree, statement: usize) -> Option<usize> {
+/// The counted occurrences of an entry by their Ident's number, those whose name has no row among
+/// them: what consumes an Ident does not go by its name.
+pub fn counted_occurrences(tree: &Tree, entry: usize) -> Vec<Occurrence> {
+    let mut found = Vec::new();
+    for statement in tree.statements(entry) {
+        found.extend(counted_value(tree, statement));
+        for call in tree.within(statement, CALL) {
+            found.extend(counted_arguments(tree, call));
+        }
+    }
+    found.sort_by_key(|occurrence| occurrence.ident);
+    found
+}
+
+/// "an Assign value that is a bare Ident": the Assign consumes it.
+fn counted_value(tree: &Tree, statement: usize) -> Option<Occurrence> {
     if tree.kind(statement) != ASSIGN {
         return None;
     }
     let value = tree.assign_value(statement);
-    (tree.kind(value) == IDENT).then_some(value)
+    (tree.kind(value) == IDENT).then_some(Occurrence { ident: value, consumer: statement })
 }
 
 /// "each argument that peels to an Ident, in every Call except those with callee Field `get`,
-/// `contains`, `has`. Calls nested in these still count."
-fn counted_arguments(tree: &Tree, call: usize) -> Vec<usize> {
+/// `contains`, `has`. Calls nested in these still count." The Call whose argument it is consumes it.
+fn counted_arguments(tree: &Tree, call: usize) -> Vec<Occurrence> {
     let looking = |name: &[u8]| matches!(name, b"get" | b"contains" | b"has");
     if tree.method(call).is_some_and(|(_, name)| looking(name)) {
         return Vec::new();
     }
     let peeled = tree.arguments(call).map(|a| tree.peeled(a));
-    peeled.filter(|a| tree.kind(*a) == IDENT).collect()
+    let idents = peeled.filter(|a| tree.kind(*a) == IDENT);
+    idents.map(|ident| Occurrence { ident, consumer: call }).collect()
 }
 
 /// "After all 60s, rows in order: 61 when marks plus occurrences are 0, 62 when over 1."
@@ -144,5 +159,5 @@ fn uses(rows: &[Row], out: &mut Records) {
 /// their Ident's number.
 fn related_use(row: &Row) -> usize {
     let which = if row.marks > 0 { 0 } else { 1 };
-    row.occurrences.get(which).copied().unwrap_or(0)
+    row.occurrences.get(which).map_or(0, |occurrence| occurrence.ident)
 }
