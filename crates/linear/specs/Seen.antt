@@ -59,7 +59,7 @@ abbrev pub seenLinear : (Tree → List Rec) → (nodes : Lent (List ℕ)) (words
     → LinearTables (old nodes) words (old reader) (old burned) (old places) (old first) (old last) (old tallies) → List Rec
 seenLinear F nodes words reader burned places first last tallies T = F (treeOf (T .known .view))
 
--- the tables are clean again after an item, and none has a consumer behind it
+-- the tables are clean again after an item, and no node behind it has a consumer
 abbrev pub CleansRows : ℕ → (nodes : Lent (List ℕ)) (words : Words) (reader burned : Lent (List Bool)) (consumers places first last tallies : Lent (List ℕ)) → Type 0
 CleansRows p nodes words reader burned consumers places first last tallies =
     (T : LinearTables (old nodes) words (old reader) (old burned) (old places) (old first) (old last) (old tallies))

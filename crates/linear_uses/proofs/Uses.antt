@@ -97,7 +97,7 @@ on-rows T = record { view = T .counting .view; row-of = T .row-of; noted = T .no
 -- the Ident that was found is a word
 pub spoken : {nodes : List ℕ} {base p : ℕ} (W : View nodes base) (e : ℕ) → In nodes base p → (found : Occurrence) → Finding (treeOf W) e p found → Spoken nodes base found
 spoken W e i Nothing F = tt
-spoken {p = p} W e i (Consumed j c) F = rw (F .0) (record { view = W; here = i; carries = inr (List·Memᴰ·eq-of-singleton (F .1 .0 .kind)) })
+spoken W e i (Consumed j c) F = rw (F .0) (record { view = W; here = i; carries = inr (List·Memᴰ·eq-of-singleton (F .1 .0 .kind)) })
 
 -- two tests one after the other
 keep-also : (b : Bool) (q : ℕ → Bool) (f : ℕ → ℕ → List ℕ) (p : ℕ) → keep (also b q p) (λ i. f i i) p ≡ keep b (λ i. keep (q i) (f i) i) p
