@@ -1,7 +1,7 @@
 -- One sweep both takes and finds: a node is taken only by nodes before it, so that its cell is final when the sweep comes to it.
 use Prim.Native.Nat.{ℕ, _+_, _-_, _≤_}
 use mathlib.Core.Path.{_≡_, refl, ap, _∙_, sym}
-use mathlib.Core.Bool.{Bool, false, true≢false}
+use mathlib.Core.Bool.{Bool, true≢false}
 use mathlib.Core.List.{List, List·Memᴰ·head, List·Memᴰ·eq-of-singleton}
 use mathlib.Core.Logic.{⊎-elim}
 use native.Mathlib.Omega.{arith}
@@ -19,8 +19,7 @@ use Rattle.places.specs.Places.{noting, notes}
 use Rattle.places.proofs.Reading.{LastOr, last-or}
 use Rattle.linear_occurrences.specs.declared.Occurrence.the-variants.{Nothing}
 use Rattle.linear_occurrences.specs.Counted.{Counting, Cells, Ahead, Clear, Finding, consumedBy, takesNode, takerOf}
-use Rattle.linear_occurrences.proofs.Cells.{cells-none, cells-self}
-use Rattle.linear_occurrences.proofs.Taken.{other-takes}
+use Rattle.linear_occurrences.proofs.Cells.{cells-self}
 use Rattle.linear_occurrences.proofs.Counted.{untaken, takes-consumes, consumes-takes}
 
 -- from a later node on the table has none
@@ -33,15 +32,17 @@ module _ (t : Tree) {base : ℕ} where
   unfolding notes
   ahead-starts C = record { size = C .size; cell = λ i l h. C .cell i l h ∙ sym (folded-none (λ j u. noting Last u (takesNode t i j) j) 0 base) }
 
-  -- on past node p
-  pub ahead-on : {r r′ : List ℕ} {p : ℕ} → base ≤ p → Ahead t base p r → Cells (λ i. pick (takesNode t i p) p (getD r i 0)) r′ → Ahead t base (p + 1) r′
+  -- on past node p, which takes its own
+  pub ahead-on : {r r′ : List ℕ} {p : ℕ} → base ≤ p → Ahead t base p r → ((P : ℕ → ℕ) → Cells P r → Cells (λ i. pick (takesNode t i p) p (P i)) r′) → Ahead t base (p + 1) r′
   unfolding notes
-  ahead-on {p = p} l A C = record {
-    size = C .size;
-    cell = λ i g h.
-        C .cell i h ∙ ap (pick (takesNode t i p) p) (A .cell i (omega arith) h)
-        ∙ sym (folded-on (λ j u. noting Last u (takesNode t i j) j) 0 base p (p + 1) l (omega arith) (λ j g h. absurd (omega arith)));
-  }
+  ahead-on {r} {r′} {p} l A f =
+      let C : Cells (λ i. pick (takesNode t i p) p (getD r i 0)) r′ = f (λ i. getD r i 0) (cells-self (A .size)) in
+      record {
+        size = C .size;
+        cell = λ i g h.
+            C .cell i h ∙ ap (pick (takesNode t i p) p) (A .cell i (omega arith) h)
+            ∙ sym (folded-on (λ j u. noting Last u (takesNode t i j) j) 0 base p (p + 1) l (omega arith) (λ j g h. absurd (omega arith)));
+      }
 
   -- the node that takes i, or none
   pub taker-is : (i p : ℕ) → base ≤ p → LastOr (takesNode t i) base p (takerOf t i base p)
@@ -62,8 +63,8 @@ module _ {nodes : List ℕ} {base : ℕ} {reader : List Bool} (T : Counting node
 
   module _ {p : ℕ} (i : In nodes base p) {r : List ℕ} (A : Ahead t base p r) where
     -- an Ident's cell is final: the nodes from p on take none but later ones
-    finding-here : t .kind p ≡ 35 → Finding t (T .entry) p (consumedBy p (getD r p 0))
-    finding-here k = go (getD r p 0) (rw (sym (A .cell p (omega arith) (i .2))) at (taker-is t p p (i .0)))
+    pub found-ident : t .kind p ≡ 35 → Finding t (T .entry) p (consumedBy p (getD r p 0))
+    found-ident k = go (getD r p 0) (rw (sym (A .cell p (omega arith) (i .2))) at (taker-is t p p (i .0)))
       where
         below : Below t ident (T .entry) p
         below = let a = T .first .after in let h = inside (T .view) i in let e = T .ends in let l = i .0 in record { after = omega arith; inside = omega arith; kind = List·Memᴰ·head k }
@@ -78,12 +79,6 @@ module _ {nodes : List ℕ} {base : ℕ} {reader : List Bool} (T : Counting node
             true≢false (sym (q .2) ∙ ⊎-elim (z .1 (c .0) (q .0)) (λ g. untaken T p (c .0) (q .0) (q .1) (λ d. let l = d .0 in omega arith)) (lt-or-ge (c .0) p))))
             (λ f. let a = T .first .after in let l = f .0 .low in let h = f .0 .high in let u = inside (T .view) i in rw (ne-eqb v 0 (λ e. omega arith)) (refl, takes-consumes T v p l (omega arith) (f .0 .is) below))
 
-    -- the answer at node p: of a node that takes some, of one that takes none, of an Ident
-    pub found-taken : {r′ : List ℕ} → (t .kind p ≡ 35 → ⊥) → Cells (λ j. pick (takesNode t j p) p (getD r j 0)) r′ → Finding t (T .entry) p Nothing × Ahead t base (p + 1) r′
-    found-taken n C = (λ c. n (List·Memᴰ·eq-of-singleton (c .1 .0 .kind)), ahead-on t (i .0) A C)
-
-    pub found-none : (t .kind p ≡ 35 → ⊥) → ((j : ℕ) → takesNode t j p ≡ false) → Finding t (T .entry) p Nothing × Ahead t base (p + 1) r
-    found-none n f = found-taken n (cells-none p (cells-self (A .size)) f)
-
-    pub found-ident : t .kind p ≡ 35 → Finding t (T .entry) p (consumedBy p (getD r p 0)) × Ahead t base (p + 1) r
-    found-ident k = (finding-here k, ahead-on t (i .0) A (cells-none p (cells-self (A .size)) (other-takes t p (λ e. omega arith) (λ e. omega arith))))
+  -- another node is no occurrence
+  pub found-none : {p : ℕ} → (t .kind p ≡ 35 → ⊥) → Finding t (T .entry) p Nothing
+  found-none n = λ c. n (List·Memᴰ·eq-of-singleton (c .1 .0 .kind))

@@ -1,4 +1,4 @@
--- A table by node number: a node that is put into one cell, and into those that a walk from node to node names.
+-- A table by node number: a node that is put into one cell, and into those that a walk from node to node names; what that settles.
 use Prim.Native.Nat.{ℕ, _-_, _<_, _≤_}
 use mathlib.Core.Path.{_≡_, refl, ap, _∙_, sym}
 use mathlib.Core.Bool.{Bool, true, false}
@@ -9,7 +9,7 @@ use native.Mathlib.Omega.{arith}
 use borrow.Author.Tests.{eq-eqb, ne-eqb}
 use lib.Dec.{eqb}
 use lib.ListN.{length, getD, set, length-set}
-use lib.Seq.{getD-set-same, getD-set-other}
+use lib.Seq.{ext-getD, getD-set-same, getD-set-other}
 use Rattle.image.specs.Pick.{pick}
 use Rattle.image.proofs.Decide.{eq-or-ne}
 use Rattle.rules.specs.Sweep.{either, some}
@@ -35,6 +35,14 @@ module _ (c : ℕ) {P : ℕ → ℕ} {r : List ℕ} (C : Cells P r) where
 
       other : (i : ℕ) → i < 2048 → (y ≡ i → ⊥) → getD (set r y c) i 0 ≡ pick (eqb y i) c (P i)
       other i l n = getD-set-other r y i c 0 (λ q. n (sym q)) ∙ C .cell i l ∙ sym (ap (λ (b : Bool). pick b c (P i)) (ne-eqb y i n))
+
+-- what a contract by `Puts` settles: two tables that it allows are one
+pub puts-settle : {X : Type 0} (c : ℕ) (G : X → ℕ → Bool) (r : List ℕ) {r′ r″ : List ℕ} → X → length r ≡ 2048 → Puts c G r r′ → Puts c G r r″ → r′ ≡ r″
+puts-settle c G r {r′} {r″} x e f g =
+    let C : Cells (λ i. pick (G x i) c (getD r i 0)) r′ = f x _ (cells-self e) in
+    let D : Cells (λ i. pick (G x i) c (getD r i 0)) r″ = g x _ (cells-self e) in
+    let l = C .size in
+    ext-getD 0 r′ r″ (l ∙ sym (D .size)) (λ i h. C .cell i (omega arith) ∙ sym (D .cell i (omega arith)))
 
 -- one test after another
 pick-either : (a b : Bool) (c v : ℕ) → pick b c (pick a c v) ≡ pick (either a b) c v

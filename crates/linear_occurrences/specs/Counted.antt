@@ -1,6 +1,6 @@
 -- Counted occurrences node by node ("Linear" of document 01, E5 of document 02): what an Assign or a Call takes, for each of 2,048 nodes, by
 -- its number, which one takes it, and what is found at a node.
-use Prim.Native.Nat.{ℕ, _+_, _-_, _<_, _≤_}
+use Prim.Native.Nat.{ℕ, _-_, _<_, _≤_}
 use mathlib.Core.Path.{_≡_}
 use mathlib.Core.Bool.{Bool, not}
 use mathlib.Core.List.{List, []}
@@ -9,7 +9,7 @@ use lib.ListN.{length, getD}
 use Rattle.image.specs.Maxima.{maxNodes}
 use Rattle.image.specs.Pick.{pick, both}
 use Rattle.rules.specs.Sweep.{either, also, has, hasWord}
-use Rattle.rules.specs.Tree.{Tree, assign, call, peels}
+use Rattle.rules.specs.Tree.{Tree, assignedOf, calleeOf, assign, call, peels}
 use Rattle.rules.specs.Words.{readers}
 use Rattle.rules.specs.Vocabulary.{someArgument, atBottom, isField}
 use Rattle.rules.specs.Linear.{Consumes, Counted}
@@ -38,7 +38,7 @@ consumedBy i c = pick (eqb c 0) Nothing (Consumed i c)
 
 -- node i is the value of the Assign s; the argument a peels to it; an argument of the Call c does
 abbrev pub isValue : Tree → ℕ → ℕ → Bool
-isValue t i s = eqb (t .end (s + 1)) i
+isValue t i s = eqb (assignedOf t s) i
 
 abbrev pub peelsTo : Tree → ℕ → ℕ → Bool
 peelsTo t i a = atBottom t peels a (λ j. eqb j i)
@@ -50,7 +50,7 @@ isTaken t i c = someArgument t c (peelsTo t i)
 abbrev pub takesNode : Tree → ℕ → ℕ → Bool
 takesNode t i p =
     either (also (has (t .kind p) assign) (isValue t i) p)
-    (also (has (t .kind p) call) (λ c. both (not (isField t readers (c + 1))) (isTaken t i c)) p)
+    (also (has (t .kind p) call) (λ c. both (not (isField t readers (calleeOf t c))) (isTaken t i c)) p)
 
 -- the one of the nodes from `base` up to p that takes node i, the last if there were several; 0 if there is none
 abbrev pub takerOf : Tree → ℕ → ℕ → ℕ → ℕ
@@ -94,8 +94,11 @@ pub record Clear (p : ℕ) (r : List ℕ) : Type 0 where
   pub size : length r ≡ maxNodes
   pub cell : (i : ℕ) → p ≤ i → i < maxNodes → getD r i 0 ≡ 0
 
--- the answer for node p of the sweep is what is found there; and the sweep has come past it
+-- the answer for node p of a sweep that has come to p is what is found there
 abbrev pub Finds : (nodes : Lent (List ℕ)) (base : ℕ) (reader : Lent (List Bool)) (p : ℕ) (consumers : Lent (List ℕ)) → Occurrence → Type 0
 Finds nodes base reader p consumers r =
-    (T : Counting (old nodes) base (old reader)) → Ahead (treeOf (T .view)) base p (old consumers)
-    → Finding (treeOf (T .view)) (T .entry) p r × Ahead (treeOf (T .view)) base (p + 1) (new consumers)
+    (T : Counting (old nodes) base (old reader)) → Ahead (treeOf (T .view)) base p (old consumers) → Finding (treeOf (T .view)) (T .entry) p r
+
+-- what node p itself takes is taken by p; and nothing else of the table changes
+abbrev pub TakesItsOwn : (nodes : Lent (List ℕ)) (base : ℕ) (reader : Lent (List Bool)) (p : ℕ) (consumers : Lent (List ℕ)) → Type 0
+TakesItsOwn nodes base reader p consumers = Takes p (λ (T : Counting (old nodes) base (old reader)) i. takesNode (treeOf (T .view)) i p) consumers

@@ -17,7 +17,7 @@ ghost use Rattle.records.specs.Words.{old, new};
 ghost use Rattle.nodes.specs.Shown.{View, In, treeOf};
 ghost use Rattle.nodes.specs.Marks.{Marks};
 ghost use Rattle.names.specs.Spelled.{WordsOf};
-ghost use Rattle.linear_occurrences.specs.Counted.{IsCall, Counting, Finds, Takes, consumedBy, peelsTo, isTaken, isReader};
+ghost use Rattle.linear_occurrences.specs.Counted.{IsCall, Counting, Finds, Takes, TakesItsOwn, consumedBy, peelsTo, isTaken, isReader};
 
 // For each of 2,048 nodes, by its number, the Assign or the Call that takes it; 0 where none does, as node 0 is the contract.
 pub type Consumers = [u16; Image::NODES];
@@ -89,6 +89,7 @@ pub fn occurrence_at(
 ) -> Occurrence
     requires { ⌜ Counting (now nodes) base (now reader) × In (now nodes) base p ⌝ }
     ensures { λ r. ⌜ Finds nodes base reader p consumers r ⌝ }
+    ensures { λ _. ⌜ TakesItsOwn nodes base reader p consumers ⌝ }
 {
     match nodes::kind(nodes, base, p) {
         IDENT => consumed(consumers, p),

@@ -8,7 +8,7 @@ use Rattle.rules.specs.Sweep.{run}
 use Rattle.nodes.specs.Shown.{In, treeOf}
 use Rattle.nodes.proofs.Spans.{Span, span-whole, upto-is}
 use Rattle.linear_occurrences.specs.Counted.{Ahead}
-use Rattle.linear_occurrences.proofs.Ahead.{ahead-starts, ahead-clear}
+use Rattle.linear_occurrences.proofs.Ahead.{ahead-starts, ahead-on, ahead-clear}
 use Rattle.linear_occurrences.proofs.Found.{finding-keeps}
 use Rattle.linear_rows.specs.Tallies.{Tallied}
 use Rattle.linear_uses.specs.Uses.{Using, useAt}
@@ -51,7 +51,7 @@ use-row-requires c κs =
     let e = T .counting .entry in
     let w : In (d .args .nodes .now) (d .args .base) (n .p) = (a, omega arith, omega arith) in
     let q = i .3 T in
-    (on-rows T, spoken (T .counting .view) e w (c .before .occurrence-at .result) (c .before .occurrence-at .ensures (T .counting) (q .0) .0), uses-spare t e (T .row-of) (d .args .base) (omega arith) (q .1 (d .pre .2 .0) (d .pre .2 .1)))
+    (on-rows T, spoken (T .counting .view) e w (c .before .occurrence-at .result) (c .before .occurrence-at .ensures .0 (T .counting) (q .0)), uses-spare t e (T .row-of) (d .args .base) (omega arith) (q .1 (d .pre .2 .0) (d .pre .2 .1)))
 
 loop-again : tie.Need-loop-again Inv-loop μ-loop
 loop-again c =
@@ -66,8 +66,8 @@ loop-again c =
           let f = T .counting .first .after in
           let u = upto-is (T .counting .view) in
           let e = T .counting .ends in
-          let r = c .before .before .occurrence-at .ensures (T .counting) (q .0) in
-          (r .1, λ M t. uses-on (treeOf (T .counting .view)) (T .counting .entry) (T .row-of) (c .before .before .before .before .before .before .before .args .base) (c .before .before .occurrence-at .result) a (finding-keeps (treeOf (T .counting .view)) (T .counting .entry) _ (omega arith) (omega arith) (c .before .before .occurrence-at .result) (r .0)) (c .use-row .ensures (on-rows T) M _ (q .1 M t))),
+          let r = c .before .before .occurrence-at .ensures in
+          (ahead-on (treeOf (T .counting .view)) a (q .0) (r .1 (T .counting)), λ M t. uses-on (treeOf (T .counting .view)) (T .counting .entry) (T .row-of) (c .before .before .before .before .before .before .before .args .base) (c .before .before .occurrence-at .result) a (finding-keeps (treeOf (T .counting .view)) (T .counting .entry) _ (omega arith) (omega arith) (c .before .before .occurrence-at .result) (r .0 (T .counting) (q .0))) (c .use-row .ensures (on-rows T) M _ (q .1 M t))),
     )
 
 returns : tie.Need-returns Inv-loop μ-loop
