@@ -28,7 +28,7 @@ module _ {nodes : List ℕ} {base : ℕ} {reader : List Bool} (T : Counting node
   abbrev t : Tree
   t = treeOf (T .view)
 
-  below-root : Below t entry 0 (T .entry)
+  pub below-root : Below t entry 0 (T .entry)
   below-root = let W = T .view in let a = T .first .after in let l = W .shown .low in let h = W .shown .high in let r = formed W .root-end in record { after = T .after; inside = omega arith; kind = List·Memᴰ·head (T .is-entry) }
 
   pub finding-settles : (p : ℕ) (r r′ : Occurrence) → Finding t (T .entry) p r → Finding t (T .entry) p r′ → r ≡ r′

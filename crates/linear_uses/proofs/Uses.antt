@@ -100,7 +100,7 @@ spoken W e i Nothing F = tt
 spoken W e i (Consumed j c) F = rw (F .0) (record { view = W; here = i; carries = inr (List·Memᴰ·eq-of-singleton (F .1 .0 .kind)) })
 
 -- two tests one after the other
-keep-also : (b : Bool) (q : ℕ → Bool) (f : ℕ → ℕ → List ℕ) (p : ℕ) → keep (also b q p) (λ i. f i i) p ≡ keep b (λ i. keep (q i) (f i) i) p
+pub keep-also : (b : Bool) (q : ℕ → Bool) (f : ℕ → ℕ → List ℕ) (p : ℕ) → keep (also b q p) (λ i. f i i) p ≡ keep b (λ i. keep (q i) (f i) i) p
 unfolding keep
 keep-also true q f p = go (q p)
   where

@@ -67,24 +67,18 @@ unfolding run
 run-same f g a zero h = refl
 run-same f g a (suc n) h = rw (run-same f g a n (λ i l k. h i l (omega arith)), h (a + n) (omega arith) (omega arith))
 
--- the nodes from a up to p have contributed
-abbrev pub Swept : (ℕ → List Rec) → ℕ → List ℕ → ℕ → ℕ → List ℕ → ℕ → Type 0
-Swept f a o₀ k₀ p o k = Laid o₀ k₀ (run f a (p - a)) o k
+-- What is said of a buffer by some L: that the k₀ before, in o₀, are followed by l, and so o stands, with k in all. Nothing may follow,
+-- and one list another.
+pub record Follows {A : Type 0} (L : List ℕ → ℕ → List A → List ℕ → ℕ → Type 0) : Type 0 where
+  pub none : (o : List ℕ) (k : ℕ) → L o k [] o k
+  pub join : {o₀ o₁ o₂ : List ℕ} {k₀ k₁ k₂ : ℕ} {a b : List A} → L o₀ k₀ a o₁ k₁ → L o₁ k₁ b o₂ k₂ → L o₀ k₀ (a ++ b) o₂ k₂
 
-swept-none : (f : ℕ → List Rec) (a : ℕ) (o : List ℕ) (k : ℕ) → Swept f a o k a o k
-swept-none f a o k = rw (sub-self a) (rw run-none (laid-none o k))
-
--- p has contributed too, and the nodes from there up to q contribute nothing
-swept-on : (f : ℕ → List Rec) (a p q : ℕ) {o₀ o₁ o₂ : List ℕ} {k₀ k₁ k₂ : ℕ} → a ≤ p → p < q → ((i : ℕ) → p < i → i < q → f i ≡ [])
-    → Swept f a o₀ k₀ p o₁ k₁ → Laid o₁ k₁ (f p) o₂ k₂ → Swept f a o₀ k₀ q o₂ k₂
-swept-on f a p q l h g w z = laid-as (sym (run-on f a p q l h g)) (laid-join w z)
-
--- The invariant of every sweep: the nodes from `from` up to p have contributed F, each at most `most` records, whichever x the nodes are seen by (an image; an image and an entry; ..).
-pub record Sweeping {X : Type 0} (F : X → ℕ → List Rec) (from to most : ℕ) (o₀ : List ℕ) (k₀ : ℕ) (o : List ℕ) (k p : ℕ) : Type 0 where
+-- The invariant of every sweep: the nodes from `from` up to p have contributed F, each at most `most`, whichever x the nodes are seen by (an image; an image and an entry; ..).
+pub record Sweeps {A : Type 0} (L : List ℕ → ℕ → List A → List ℕ → ℕ → Type 0) {X : Type 0} (F : X → ℕ → List A) (from to most : ℕ) (o₀ : List ℕ) (k₀ : ℕ) (o : List ℕ) (k p : ℕ) : Type 0 where
   pub low : from ≤ p
   pub high : p ≤ to
   pub few : k ≤ k₀ + most * (p - from)
-  pub laid : (x : X) → Swept (F x) from o₀ k₀ p o k
+  pub laid : (x : X) → L o₀ k₀ (run (F x) from (p - from)) o k
 
 more : (most d m : ℕ) → d < m → most * d + most ≤ most * m
 more most d (suc m) h = let z : d ≤ m = omega arith in let y : most * suc m ≡ most * m + most = simp unary-clauses (omega arith) in go most d m z y
@@ -102,44 +96,61 @@ more most d (suc m) h = let z : d ≤ m = omega arith in let y : most * suc m �
             omega arith
 more most d zero h = absurd (omega arith)
 
-module _ {X : Type 0} {F : X → ℕ → List Rec} {from to most : ℕ} {o₀ : List ℕ} {k₀ : ℕ} where
-  pub sweep-starts : from ≤ to → Sweeping F from to most o₀ k₀ o₀ k₀ from
-  sweep-starts h = record {
+module _ {A : Type 0} {L : List ℕ → ℕ → List A → List ℕ → ℕ → Type 0} (follows : Follows L) {X : Type 0} {F : X → ℕ → List A} {from to most : ℕ} {o₀ : List ℕ} {k₀ : ℕ} where
+  pub sweeps-start : from ≤ to → Sweeps L F from to most o₀ k₀ o₀ k₀ from
+  sweeps-start h = record {
     low = omega arith;
     high = h;
     few = omega arith;
-    laid = λ x. swept-none (F x) from o₀ k₀;
+    laid = λ x. rw (sub-self from) (rw run-none (follows .none o₀ k₀));
   }
 
   -- on to q, past nodes that contribute nothing: the next child
-  pub sweep-on : {o o′ : List ℕ} {k k′ p q : ℕ} → Sweeping F from to most o₀ k₀ o k p → Added (λ x. F x p) most o k o′ k′
-      → p < q → q ≤ to → ((x : X) (i : ℕ) → p < i → i < q → F x i ≡ []) → Sweeping F from to most o₀ k₀ o′ k′ q
-  sweep-on {o} {o′} {k} {k′} {p} {q} w a g h z =
+  pub sweeps-on : {o o′ : List ℕ} {k k′ p q : ℕ} → Sweeps L F from to most o₀ k₀ o k p → k′ ≤ k + most → ((x : X) → L o k (F x p) o′ k′)
+      → p < q → q ≤ to → ((x : X) (i : ℕ) → p < i → i < q → F x i ≡ []) → Sweeps L F from to most o₀ k₀ o′ k′ q
+  sweeps-on {o} {o′} {k} {k′} {p} {q} w f a g h z =
       let i = w .low in
       let j = w .few in
-      let f = a .few in
       let m = more most (p - from) (q - from) (omega arith) in
       record {
         low = omega arith;
         high = h;
         few = omega arith;
-        laid = λ x. swept-on (F x) from p q i g (z x) (w .laid x) (a .laid x);
+        laid = λ x. rw (run-on (F x) from p q i g (z x)) (follows .join (w .laid x) (a x));
       }
+
+  pub sweeps-again : {o o′ : List ℕ} {k k′ p : ℕ} → Sweeps L F from to most o₀ k₀ o k p → k′ ≤ k + most → ((x : X) → L o k (F x p) o′ k′) → p < to
+      → Sweeps L F from to most o₀ k₀ o′ k′ (p + 1)
+  sweeps-again w f a h = sweeps-on w f a (omega arith) (omega arith) (λ x i b c. absurd (omega arith))
+
+  pub sweeps-done : {o : List ℕ} {k p : ℕ} → Sweeps L F from to most o₀ k₀ o k p → to ≤ p → (k ≤ k₀ + most * (to - from)) × ((x : X) → L o₀ k₀ (run (F x) from (to - from)) o k)
+  sweeps-done {o} {k} {p} w h = let i = w .high in let e : p ≡ to = omega arith in (rw e at (w .few), λ x. rw e at (w .laid x))
+
+-- of a list's records
+abbrev pub Sweeping : {X : Type 0} (F : X → ℕ → List Rec) (from to most : ℕ) (o₀ : List ℕ) (k₀ : ℕ) (o : List ℕ) (k p : ℕ) → Type 0
+Sweeping F from to most o₀ k₀ o k p = Sweeps Laid F from to most o₀ k₀ o k p
+
+laid-follows : Follows Laid
+laid-follows = record { none = laid-none; join = laid-join }
+
+module _ {X : Type 0} {F : X → ℕ → List Rec} {from to most : ℕ} {o₀ : List ℕ} {k₀ : ℕ} where
+  pub sweep-starts : from ≤ to → Sweeping F from to most o₀ k₀ o₀ k₀ from
+  sweep-starts h = sweeps-start laid-follows h
+
+  pub sweep-on : {o o′ : List ℕ} {k k′ p q : ℕ} → Sweeping F from to most o₀ k₀ o k p → Added (λ x. F x p) most o k o′ k′
+      → p < q → q ≤ to → ((x : X) (i : ℕ) → p < i → i < q → F x i ≡ []) → Sweeping F from to most o₀ k₀ o′ k′ q
+  sweep-on w a g h z = sweeps-on laid-follows w (a .few) (a .laid) g h z
 
   pub sweep-again : {o o′ : List ℕ} {k k′ p : ℕ} → Sweeping F from to most o₀ k₀ o k p → Added (λ x. F x p) most o k o′ k′ → p < to
       → Sweeping F from to most o₀ k₀ o′ k′ (p + 1)
-  sweep-again w a h = sweep-on w a (omega arith) (omega arith) (λ x i b c. absurd (omega arith))
+  sweep-again w a h = sweeps-again laid-follows w (a .few) (a .laid) h
 
   pub sweep-done : {o : List ℕ} {k p : ℕ} → Sweeping F from to most o₀ k₀ o k p → to ≤ p → (x : X) → Laid o₀ k₀ (run (F x) from (to - from)) o k
-  sweep-done {o} {k} {p} w h x = let i = w .high in let e : p ≡ to = omega arith in rw e at (w .laid x)
+  sweep-done w h = sweeps-done laid-follows w h .1
 
   -- what the whole of it adds
-  pub swept : {L : X → List Rec} {all : ℕ} {o : List ℕ} {k p : ℕ} → Sweeping F from to most o₀ k₀ o k p → to ≤ p → ((x : X) → run (F x) from (to - from) ≡ L x) → most * (to - from) ≤ all → Added L all o₀ k₀ o k
-  swept {o = o} {k = k} {p = p} w h g m =
-      let i = w .high in
-      let e : p ≡ to = omega arith in
-      let f : k ≤ k₀ + most * (to - from) = rw e at (w .few) in
-      record { laid = λ x. laid-as (g x) (sweep-done w h x); few = omega arith }
+  pub swept : {G : X → List Rec} {all : ℕ} {o : List ℕ} {k p : ℕ} → Sweeping F from to most o₀ k₀ o k p → to ≤ p → ((x : X) → run (F x) from (to - from) ≡ G x) → most * (to - from) ≤ all → Added G all o₀ k₀ o k
+  swept w h g m = let f = sweeps-done laid-follows w h .0 in record { laid = λ x. laid-as (g x) (sweep-done w h x); few = omega arith }
 
   pub sweep-long : {o : List ℕ} {k p : ℕ} → Sweeping F from to most o₀ k₀ o k p → X → length o ≡ length o₀
   sweep-long w x = laid-long (w .laid x)

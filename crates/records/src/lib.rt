@@ -8,7 +8,7 @@ ghost use Rattle.records.specs.Words.{old, new};
 ghost use Rattle.records.specs.Records.{Adds, hitList};
 
 // Stores w at i, if the buffer has such a word.
-fn put(out: &mut [u16], i: usize, w: u16)
+pub fn put(out: &mut [u16], i: usize, w: u16)
     ensures { λ _. ⌜ new out ≡ set (old out) i w ⌝ }
 {
     if i < out.len() {
