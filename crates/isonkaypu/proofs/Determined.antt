@@ -28,6 +28,8 @@ use Rattle.isonkaypu.proofs.isonkaypu_access_list.Kinds as access-list-
 use Rattle.isonkaypu.proofs.isonkaypu_access_list.Reads as access-list-reads
 use Rattle.isonkaypu.proofs.isonkaypu_linear_list.Kinds as linear-list-kinds
 use Rattle.isonkaypu.proofs.isonkaypu_linear_list.Reads as linear-list-reads
+use Rattle.isonkaypu.proofs.isonkaypu_why.Kinds as why-kinds
+use Rattle.isonkaypu.proofs.isonkaypu_why.Reads as why-reads
 
 also : {a b : ℕ} {l m : List ℕ} → a ≡ b → l ≡ m → a ∷ l ≡ b ∷ m
 also {a} {b} {l} {m} e f = ap (λ (x : ℕ). x ∷ l) e ∙ ap (λ (x : List ℕ). b ∷ x) f
@@ -74,3 +76,7 @@ access-list-settles κs a x y e f p q = (same (p .0 .0) (q .0 .0), also (same (p
 -- count and words
 pub linear-list-settles : SettlesBoth linear-list-kinds.ps linear-list-kinds.r linear-list-reads.Learnt (λ κs e. now (e .1 .1 .0) ∷ now (e .1 .0))
 linear-list-settles κs a x y e f p q = (same (p .0 .0) (q .0 .0), also (same (p .0 .1) (q .0 .1)) (same (p .1) (q .1)))
+
+-- count and words
+pub why-settles : SettlesBoth why-kinds.ps why-kinds.r why-reads.Learnt (λ κs e. now (e .1 .1 .1 .0) ∷ now (e .1 .1 .0))
+why-settles κs a x y e f p q = (same (p .0 .0) (q .0 .0), also (same (p .0 .1) (q .0 .1)) (same (p .1) (q .1)))

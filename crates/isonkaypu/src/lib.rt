@@ -1,7 +1,8 @@
-// The face of typeck for C and Rust, in plain numbers. A refused image answers its number, 1 to 8, and zeros.
+// The face of typeck and of why for C and Rust, in plain numbers. A refused image answers its number, 1 to 8, and zeros.
 use typeck::Listed;
 use typeck::Reply;
 use typeck::Verdict;
+use why::Reasons;
 ghost use mathlib.Core.Path.{_≡_};
 ghost use mathlib.Core.List.{[], _∷_, _++_};
 ghost use Prim.Native.Nat.{_+_, _≤_};
@@ -14,8 +15,10 @@ ghost use Rattle.rules.specs.Access.{access};
 ghost use Rattle.rules.specs.Linear.{linear};
 ghost use Rattle.rules.specs.Answers.{passAnswer, ask, listAnswer, listBuffer};
 ghost use Rattle.records.specs.Words.{old, new};
+ghost use Rattle.reasons.specs.Answer.{whyAnswer, whyBuffer};
+ghost use Rattle.why.specs.Told.{replyOf};
 ghost use Rattle.typeck.specs.Face.{answerOf, numbered, listingOf, partAnswer, partWords};
-ghost use Rattle.isonkaypu.specs.Plain.{Gives, row, Says, Tells};
+ghost use Rattle.isonkaypu.specs.Plain.{Gives, row, Says, Tells, Explains};
 
 // The number of the image's refusal, 0 where it is admitted.
 #[no_mangle]
@@ -238,4 +241,33 @@ pub extern "C" fn isonkaypu_linear_list(image: &[u8], words: &mut [u16], count: 
     ensures { λ r. ⌜ Tells (partAnswer linear (old image)) r (new count) × (new words ≡ partWords linear (old image) (old words)) ⌝ }
 {
     tell(typeck::linear_list(image, words), count)
+}
+
+// The number of an answer to why, and how many words it has.
+fn explain(v: Reasons, count: &mut usize) -> usize
+    ensures { λ r. ⌜ Explains (replyOf v) r (new count) ⌝ }
+{
+    match v {
+        Reasons::Refused(r) => {
+            *count = 0;
+            r
+        }
+        Reasons::Words(k) => {
+            *count = k;
+            0
+        }
+    }
+}
+
+// Why the lot at this place is refused, or is not: two words for each clause and each use. Refusals, in this order: 1 to 8, 13 where no lot stands there, 10 where there are too few words.
+#[no_mangle]
+pub extern "C" fn isonkaypu_why(
+    image: &[u8],
+    place: usize,
+    words: &mut [u16],
+    count: &mut usize,
+) -> usize
+    ensures { λ r. ⌜ Explains (whyAnswer (old image) place (length (old words))) r (new count) × (new words ≡ whyBuffer (old image) place (old words)) ⌝ }
+{
+    explain(why::why(image, place, words), count)
 }

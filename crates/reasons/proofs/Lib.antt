@@ -1,0 +1,5 @@
+pub mod Said
+pub mod Rows
+pub mod Reasons
+pub mod Found
+pub mod Promised
