@@ -29,3 +29,13 @@ export!(
     [isonkaypu_list, isonkaypu_resolve_list, isonkaypu_access_list, isonkaypu_linear_list],
     (image: *const u8, image_len: usize, words: *mut u16, words_len: usize, count: *mut usize)
 );
+unsafe extern "C" {
+    pub fn isonkaypu_why(
+        image: *const u8,
+        image_len: usize,
+        place: usize,
+        words: *mut u16,
+        words_len: usize,
+        count: *mut usize,
+    ) -> usize;
+}

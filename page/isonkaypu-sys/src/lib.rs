@@ -137,6 +137,25 @@ fn listed(function: List, image: &[u8], words: &mut [u16]) -> (usize, usize) {
     (result, count)
 }
 
+/// Why the lot at a place is refused, or is not: the result, 0, 1 to 8, 13 where no lot stands at that
+/// place, or 10 where the words are too few; and how many words were written, two for each clause that
+/// burns the lot and each use of it.
+pub fn why(image: &[u8], place: usize, words: &mut [u16]) -> (usize, usize) {
+    let mut count = unset();
+    // SAFETY: as in `listed`.
+    let result = unsafe {
+        exported::isonkaypu_why(
+            image.as_ptr(),
+            image.len(),
+            place,
+            words.as_mut_ptr(),
+            words.len(),
+            &mut count,
+        )
+    };
+    (result, count)
+}
+
 #[cfg(test)]
 mod tests {
     use super::*;
@@ -149,6 +168,7 @@ mod tests {
         assert_eq!(verdicts(&[]).map(|answer| answer.number), [1; 3]);
         assert_eq!(is_known_asset(&[], b"QTOV"), (1, 0));
         assert_eq!((list(&[], &mut words), words), ((1, 0), [7; 3]));
+        assert_eq!((why(&[], 5, &mut words), words), ((1, 0), [7; 3]));
     }
 
     #[test]
