@@ -17,6 +17,8 @@ pub enum Doubt {
     Record([u16; 3]),
     /// The verdict of the pass is not the first of its offences in the list.
     Verdict(Pass),
+    /// The clauses and uses of a lot cannot be read, or do not go with its offence: with this code, at this node.
+    Reasons(u16, usize),
 }
 
 impl fmt::Display for Doubt {
@@ -28,6 +30,9 @@ impl fmt::Display for Doubt {
                 write!(f, "the list has a record that nobody can read: {code} {place} {related}")
             }
             Doubt::Verdict(pass) => write!(f, "the verdict of {} is not what the list says", pass.word()),
+            Doubt::Reasons(code, place) => {
+                write!(f, "the uses of the lot at node {place} are not what its code {code} says")
+            }
         }
     }
 }

@@ -21,6 +21,8 @@
 //!   here. **It is two byte offsets into the source that was parsed**, of the first byte and of the one
 //!   past the last; the image carries them as the contract has them and nobody judges them, so they may
 //!   lie outside of the source.
+//! - `why` says which clauses and which statements use a lot, `lots` which lots there are. Every 61 and 62 of a
+//!   report has the same with it: `Offence::reasons`.
 //! - `show` makes reports for people and for programs of it, with the lines of the source.
 //! - An accepted contract can still be wrong in what no rule looks at: supply (`conserve`), signed
 //!   authority, undeclared names in statements, stock that never gets a name, and more. Every report of
@@ -43,6 +45,7 @@ mod pass;
 mod questions;
 mod refusal;
 mod report;
+mod why;
 
 pub use doubt::Doubt;
 pub use offence::{Offence, Place};
@@ -52,6 +55,7 @@ pub use quanta_lexer::Span;
 pub use questions::{is_declared_asset, is_known_asset, is_state};
 pub use refusal::ImageRefusal;
 pub use report::{Report, Verdict};
+pub use why::{Lot, Reason, WhyError, lots, why};
 
 use quanta_ast::Contract;
 
@@ -97,8 +101,8 @@ pub fn library() -> &'static str {
     isonkaypu_sys::library()
 }
 
-/// What later versions will add to cannot be taken for whole: a match over the passes, the doubts or the
-/// limits has an arm for others, and nobody but this crate makes an offence.
+/// What later versions will add to cannot be taken for whole: a match over the passes, the doubts, the
+/// limits or the reasons has an arm for others, and nobody but this crate makes an offence.
 ///
 /// ```compile_fail,E0004
 /// fn all(pass: isonkaypu::Pass) -> bool {
@@ -108,9 +112,18 @@ pub fn library() -> &'static str {
 /// }
 /// ```
 ///
+/// ```compile_fail,E0004
+/// fn stands(reason: isonkaypu::Reason) -> isonkaypu::Place {
+///     match reason {
+///         isonkaypu::Reason::Clause { name, .. } => name,
+///         isonkaypu::Reason::Use { ident, .. } => ident,
+///     }
+/// }
+/// ```
+///
 /// ```compile_fail,E0638
 /// fn code(offence: &isonkaypu::Offence) -> u16 {
-///     let isonkaypu::Offence { code, place: _, name: _, related: _ } = offence;
+///     let isonkaypu::Offence { code, place: _, name: _, related: _, reasons: _ } = offence;
 ///     *code
 /// }
 /// ```

@@ -1,5 +1,6 @@
 //! One offence, as the list has it, with the name of the contract that it is about.
 
+use crate::Reason;
 use crate::name::name_of;
 use form::Tree;
 use quanta_lexer::Span;
@@ -40,10 +41,15 @@ pub struct Offence {
     /// again, the second use of a lot. With a `burns` clause, which is the earlier use, that is the first
     /// one in the statements, else the second there; where `burns` alone uses it twice there is none.
     pub related: Option<Place>,
+    /// Why a lot is refused, for 61 and 62: every clause and every use that counts for it, in the order of
+    /// `Lot::reasons`. 61 has none of them, 62 two or more. `None` for all other codes, and where the library's
+    /// answer was in doubt.
+    pub reasons: Option<Vec<Reason>>,
 }
 
 impl Offence {
-    /// The offence of a record (code, place, related), where its code is one and its places are nodes.
+    /// The offence of a record (code, place, related), where its code is one and its places are nodes. Its
+    /// reasons are another answer of the library's.
     pub(crate) fn of(tree: &Tree, [code, place, related]: [u16; 3]) -> Option<Offence> {
         crate::Pass::of_code(code)?;
         let place = Place::of(tree, usize::from(place))?;
@@ -51,8 +57,13 @@ impl Offence {
             0 => None,
             node => Some(Place::of(tree, usize::from(node))?),
         };
-        Some(Offence { code, place, name: name_of(tree, code, place.node), related })
+        Some(Offence { code, place, name: name_of(tree, code, place.node), related, reasons: None })
     }
+}
+
+/// The codes of a lot that is not used exactly once: these have reasons.
+pub fn counts_uses(code: u16) -> bool {
+    matches!(code, 61 | 62)
 }
 
 /// The code, the name and the span: enough to find it. What it means is said by `words`.

@@ -2,7 +2,8 @@
 //! closed: what cannot be read from the library's answers is a doubt, and a doubt is no acceptance.
 
 use crate::answers::Answers;
-use crate::offence::{Offence, Place};
+use crate::offence::{Offence, Place, counts_uses};
+use crate::why::Said;
 use crate::{Doubt, Pass};
 use form::Tree;
 use isonkaypu_sys::Answer;
@@ -22,11 +23,11 @@ pub struct Verdict {
 impl Verdict {
     const ACCEPTED: Verdict = Verdict { code: 0, place: Place { node: 0, span: Span { start: 0, end: 0 } } };
 
-    /// The offence that the pass met first, as far as a verdict tells: without its name and its related
-    /// place. Nothing where the pass accepts.
+    /// The offence that the pass met first, as far as a verdict tells: without its name, its related place
+    /// and its reasons. Nothing where the pass accepts.
     pub fn offence(self) -> Option<Offence> {
         let Verdict { code, place } = self;
-        (code != 0).then_some(Offence { code, place, name: None, related: None })
+        (code != 0).then_some(Offence { code, place, name: None, related: None, reasons: None })
     }
 
     /// A number too large for its place becomes the largest, which is no code and no node.
@@ -53,7 +54,8 @@ pub struct Report {
 impl Report {
     pub(crate) fn of(image: &[u8], answers: &Answers) -> Report {
         let mut doubts = Vec::new();
-        let offences = offences(image, answers, &mut doubts);
+        let tree = Tree::of(image);
+        let mut offences = offences(tree.as_ref(), answers, &mut doubts);
         let verdicts = answers.verdicts.each_ref().map(Verdict::of);
         // a list that could not be read says nothing of the verdicts
         if doubts.is_empty() {
@@ -61,6 +63,8 @@ impl Report {
             let doubted = Pass::ALL.iter().copied().zip(verdicts).filter(unlike);
             doubts.extend(doubted.map(|(pass, _)| Doubt::Verdict(pass)));
         }
+        let ask = |place: usize| (answers.why)(image, place);
+        doubts.extend(tree.iter().flat_map(|tree| give_reasons(tree, ask, &mut offences)));
         Report { image: image.to_vec(), verdicts, offences, doubts }
     }
 
@@ -122,7 +126,7 @@ fn first_of(pass: Pass, offences: &[Offence]) -> Verdict {
 }
 
 /// The offences of the list as far as it can be read; what cannot is doubted.
-fn offences(image: &[u8], answers: &Answers, doubts: &mut Vec<Doubt>) -> Vec<Offence> {
+fn offences(tree: Option<&Tree>, answers: &Answers, doubts: &mut Vec<Doubt>) -> Vec<Offence> {
     if answers.list != 0 {
         doubts.push(Doubt::List(answers.list));
         return Vec::new();
@@ -132,15 +136,26 @@ fn offences(image: &[u8], answers: &Answers, doubts: &mut Vec<Doubt>) -> Vec<Off
         doubts.push(Doubt::Count(answers.count));
         return Vec::new();
     };
-    let tree = Tree::of(image);
     let mut offences = Vec::with_capacity(records.len());
     for record in records {
-        match tree.as_ref().and_then(|tree| Offence::of(tree, *record)) {
+        match tree.and_then(|tree| Offence::of(tree, *record)) {
             Some(offence) => offences.push(offence),
             None => doubts.push(Doubt::Record(*record)),
         }
     }
     offences
+}
+
+/// Gives each offence of a lot that is not used exactly once its reasons; where there are none that can be
+/// relied on, that is a doubt.
+fn give_reasons(tree: &Tree, ask: impl Fn(usize) -> Said, offences: &mut [Offence]) -> Vec<Doubt> {
+    let mut doubts = Vec::new();
+    for offence in offences.iter_mut().filter(|offence| counts_uses(offence.code)) {
+        let place = offence.place.node;
+        offence.reasons = ask(place).of_offence(tree, offence);
+        doubts.extend(offence.reasons.is_none().then_some(Doubt::Reasons(offence.code, place)));
+    }
+    doubts
 }
 
 #[cfg(test)]
@@ -155,7 +170,7 @@ mod tests {
     }
 
     fn accepting() -> Answers {
-        Answers { verdicts: [ACCEPTS; 3], list: 0, count: 0, words: vec![0; 9] }
+        Answers { verdicts: [ACCEPTS; 3], list: 0, count: 0, words: vec![0; 9], why: Said::of }
     }
 
     fn doubts(image: &[u8], answers: &Answers) -> Vec<Doubt> {
@@ -220,6 +235,69 @@ mod tests {
             let answers = Answers { count: 1, words: vec![61, 5, 0], ..linear(wrong) };
             assert_eq!(doubts(&offending, &answers), [Doubt::Verdict(Pass::Linear)]);
         }
+    }
+
+    /// A contract with one 62, and what the library says of it.
+    fn used_twice() -> (Vec<u8>, Answers) {
+        let image = example::image("contract c { entry e(x: Q_Asset<M>) burns M { send(x, x); } }");
+        let answers = Answers::of(&image).unwrap();
+        (image, answers)
+    }
+
+    #[test]
+    fn each_61_and_62_has_its_reasons() {
+        let reasons = |image: &[u8]| {
+            let report = Report::of(image, &Answers::of(image).unwrap());
+            assert_eq!(report.doubts(), []);
+            let of = |offence: &Offence| (offence.code, offence.reasons.as_ref().map(Vec::len));
+            report.offences().iter().map(of).collect::<Vec<_>>()
+        };
+        let [_, unused] = images();
+        assert_eq!(reasons(&unused), [(61, Some(0))]);
+        assert_eq!(reasons(&used_twice().0), [(39, None), (62, Some(3))]);
+        let report = Report::of(&unused, &Answers::of(&unused).unwrap());
+        assert_eq!(report.verdict(Pass::Linear).offence().and_then(|offence| offence.reasons), None);
+    }
+
+    fn said(number: usize, words: &[u16]) -> Said {
+        Said { number, count: words.len(), words: words.to_vec() }
+    }
+
+    /// What nobody can read of a lot, and what does not go with its code or its related place: the clause is
+    /// node 11, the uses are 15, which is related, and 16, and 13 takes both.
+    const NOT_OF_THE_62: &[fn(&[u8], usize) -> Said] = &[
+        |_, _| said(1, &[]),
+        |_, _| said(10, &[]),
+        |_, _| said(13, &[]),
+        |_, _| said(usize::MAX, &[11, 0, 15, 13, 16, 13]),
+        |_, _| Said { count: 5, ..said(0, &[11, 0, 15, 13]) },
+        |_, _| Said { count: usize::MAX, ..said(0, &[11, 0, 15, 13]) },
+        |_, _| said(0, &[11, 0, 15, 13, 16]),
+        |_, _| said(0, &[]),
+        |_, _| said(0, &[11, 0]),
+        |_, _| said(0, &[15, 13]),
+        |_, _| said(0, &[15, 13, 16, 13]),
+        |_, _| said(0, &[11, 0, 16, 13]),
+        |_, _| said(0, &[11, 0, 11, 0]),
+        |_, _| said(0, &[10, 0, 15, 13]),
+        |_, _| said(0, &[11, 0, 15, 14]),
+        |_, _| said(0, &[11, 0, 15, 17]),
+        |_, _| said(0, &[11, 0, 15, 13, 17, 13]),
+        |_, _| said(0, &[11, 0, 15, 13, 65_535, 65_535]),
+    ];
+
+    #[test]
+    fn reasons_must_go_with_the_code() {
+        let (image, answers) = used_twice();
+        let right = Answers { why: |_, _| said(0, &[11, 0, 15, 13, 16, 13]), ..answers };
+        assert_eq!(doubts(&image, &right), []);
+        for why in NOT_OF_THE_62 {
+            let (_, answers) = used_twice();
+            assert_eq!(doubts(&image, &Answers { why: *why, ..answers }), [Doubt::Reasons(62, 5)]);
+        }
+        let [_, unused] = images();
+        let answers = Answers { why: |_, _| said(0, &[5, 0]), ..Answers::of(&unused).unwrap() };
+        assert_eq!(doubts(&unused, &answers), [Doubt::Reasons(61, 5)]);
     }
 
     #[test]

@@ -1,6 +1,6 @@
 //! Contracts as the parser gives them: which have no image, and that none is too deep.
 
-use isonkaypu::{Doubt, ImageRefusal, Limit, Offence, PackError, Report, check, check_image};
+use isonkaypu::{Doubt, ImageRefusal, Limit, Lot, Offence, PackError, Report, WhyError, check, check_image};
 use quanta_ast::*;
 use quanta_lexer::Span;
 
@@ -110,6 +110,8 @@ fn all_that_is_answered_is_send_and_sync() {
     holds::<Doubt>();
     holds::<PackError>();
     holds::<ImageRefusal>();
+    holds::<Lot>();
+    holds::<WhyError>();
 }
 
 #[test]
