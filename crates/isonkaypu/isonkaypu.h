@@ -6,7 +6,7 @@
  *
  * What a caller guarantees
  *   - A pointer with a length points to that many elements: bytes of an image or a name, 16-bit
- *     words of a list buffer. Where the length is 0 the pointer may be null and nothing is read or
+ *     words of a lent buffer. Where the length is 0 the pointer may be null and nothing is read or
  *     written through it. No other pointer may be null.
  *   - What is written (`place`, `from`, `to`, `numbers`, `yes`, `words`, `count`) overlaps neither
  *     what is read (`image`, `name`) nor anything else that is written. Image and name may overlap.
@@ -24,14 +24,16 @@
  *   0         accepted, answered or listed
  *   1 to 8    the image is refused; docs/HELP.md says which fault has which number
  *   9         isonkaypu_list only: the buffer is too short
+ *   10, 13    isonkaypu_why only: the buffer is too short; no lot stands at the place
  *   20 to 62  resolve, access and linear only: the code of the first offence
  *             (resolve 20 to 40, access 50 and 51, linear 60 to 62)
  * Let a contract through only where every number is ISONKAYPU_ACCEPTED: later versions may have more.
  *
  * What a call writes
  *   `place`, `from`, `to`, `yes`, `count` and `numbers` are answers: every call writes those it has.
- *   On each of 1 to 9 they are 0, but for the refusal itself, which stands in `numbers` three times;
- *   and no word of a list buffer has changed. An image and a name are never written to.
+ *   (The `place` of isonkaypu_why is none: it is a number that is given, and no pointer.)
+ *   On each of 1 to 10 and 13 they are 0, but for the refusal itself, which stands in `numbers` three
+ *   times; and no word of a lent buffer has changed. An image and a name are never written to.
  */
 #ifndef ISONKAYPU_H
 #define ISONKAYPU_H
@@ -78,6 +80,8 @@ enum {
     ISONKAYPU_IMAGE_UNUSED_NAME = 8, /* a name is unused */
 
     ISONKAYPU_LIST_TOO_SHORT = 9, /* isonkaypu_list only: fewer than 3 words per offence */
+    ISONKAYPU_BUFFER_TOO_SHORT = 10, /* isonkaypu_why only: fewer than 2 words per clause and use */
+    ISONKAYPU_NO_LOT_THERE = 13, /* isonkaypu_why only: the place is that of no tracked asset */
 
     /* offences of resolve */
     ISONKAYPU_FIELD_TWICE = 20, /* field name met before */
@@ -177,6 +181,23 @@ ISONKAYPU_MUST_USE size_t isonkaypu_access_list(
     const uint8_t *image, size_t image_len, uint16_t *words, size_t words_len, size_t *count);
 ISONKAYPU_MUST_USE size_t isonkaypu_linear_list(
     const uint8_t *image, size_t image_len, uint16_t *words, size_t words_len, size_t *count);
+
+/*
+ * Why a lot is refused, or is not: every clause that burns it and every use of it. `place` is the lot's own
+ * node, as 61 and 62 have it: the Name of a parameter of type Q_Asset, or a Let whose value is a call of
+ * `split` or `mint`. Any number may be given.
+ * An entry is two words. First, for each burn mark of the lot, in the order of the parameters: the Name in
+ * the first Burns clause that gives the mark, and 0. Then, for each counted occurrence, in preorder: its
+ * Ident, and the Call or the Assign that takes it. Where parameters have one name, all marks are the first
+ * one's and all occurrences the last one's; a clause that marks two of them is there twice.
+ * Returns 0, `count` is the number of words, twice that of the entries, and they stand in `words` from its
+ * start; words past them are as they were. A lot of a 61 has no entry, one of a 62 has two or more, any
+ * other has one. 4,096 words are enough for every image.
+ * A broken image gives its refusal, 1 to 8; a place at which no lot stands 13; a buffer with fewer words
+ * than are asked for 10, in this order: then `count` is 0 and nothing was written to `words`.
+ */
+ISONKAYPU_MUST_USE size_t isonkaypu_why(
+    const uint8_t *image, size_t image_len, size_t place, uint16_t *words, size_t words_len, size_t *count);
 
 #ifdef __cplusplus
 }

@@ -1,7 +1,7 @@
 /*
  * The library as a C or C++ program meets it: every function of isonkaypu.h on document 01's example
- * P2, whose bytes are built here from the page, on P2 with version 2, and on no bytes at all. What is
- * expected is what document 01 says. All runs on a thread that has no more stack left than the header asks for.
+ * P2, whose bytes are built here from the page, on P2 with version 2, and on no bytes at all; and why a
+ * lot is refused on P9 with one use more. What is expected is what documents 01 and 02 say. All runs on a thread that has no more stack left than the header asks for.
  */
 #define _POSIX_C_SOURCE 200809L
 #include "isonkaypu.h"
@@ -11,7 +11,7 @@
 #include <stdio.h>
 #include <string.h>
 
-enum { LENGTH = 172, ROOM = 8 };
+enum { LENGTH = 172, P9_LENGTH = 380, ROOM = 8 };
 
 /* What lent memory holds before a call, so that what is not written shows. */
 static const uint16_t UNSET = 0xa5a5;
@@ -32,7 +32,58 @@ static void expect(const char *what, int holds)
     }
 }
 
-/* --- the bytes of P2 --- */
+/* --- the bytes of an image --- */
+
+/* A node without its spans: kind, name number, end. */
+typedef struct {
+    uint32_t kind, name, end;
+} Node;
+
+/* The nodes of a contract, and its names in the order of their numbers. */
+typedef struct {
+    const Node *nodes;
+    const char *const *names;
+    uint32_t n, m;
+} Contract;
+
+static const Node P2_NODES[] = {
+    {1, 0, 8},  /* 0 Contract */
+    {23, 2, 2}, /* 1   Name c */
+    {9, 0, 8},  /* 2   Entry */
+    {23, 3, 4}, /* 3     Name e */
+    {10, 0, 8}, /* 4     Param */
+    {23, 4, 6}, /* 5       Name x */
+    {11, 0, 8}, /* 6       Type */
+    {23, 1, 8}, /* 7         Name Q_Asset */
+};
+static const char *const P2_NAMES[] = {"Q_Asset", "c", "e", "x"};
+static const Contract P2 = {P2_NODES, P2_NAMES, 8, 4};
+
+/* P9, and behind its `send(to, x)` an assignment of x. */
+static const Node P9_NODES[] = {
+    {1, 0, 20},   /* 0 Contract */
+    {23, 3, 2},   /* 1   Name c */
+    {9, 0, 20},   /* 2   Entry */
+    {23, 4, 4},   /* 3     Name e */
+    {10, 0, 10},  /* 4     Param */
+    {23, 8, 6},   /* 5       Name x */
+    {11, 0, 10},  /* 6       Type */
+    {23, 1, 8},   /* 7         Name Q_Asset */
+    {11, 0, 10},  /* 8         Type */
+    {23, 2, 10},  /* 9           Name T */
+    {18, 0, 12},  /* 10    Burns */
+    {23, 2, 12},  /* 11      Name T */
+    {28, 0, 17},  /* 12    Stmt::Expr */
+    {43, 0, 17},  /* 13      Call */
+    {35, 6, 15},  /* 14        Ident send */
+    {35, 7, 16},  /* 15        Ident to */
+    {35, 8, 17},  /* 16        Ident x */
+    {27, 0, 20},  /* 17    Assign */
+    {35, 5, 19},  /* 18      Ident s */
+    {35, 8, 20},  /* 19      Ident x */
+};
+static const char *const P9_NAMES[] = {"Q_Asset", "T", "c", "e", "s", "send", "to", "x"};
+static const Contract P9 = {P9_NODES, P9_NAMES, 20, 8};
 
 static uint8_t *put(uint8_t *at, uint32_t value, int bytes)
 {
@@ -41,58 +92,59 @@ static uint8_t *put(uint8_t *at, uint32_t value, int bytes)
     return at;
 }
 
-/* Version 1, 8 nodes, 4 names, zero; the offsets of nodes, names and text; the total. */
-static uint8_t *put_header(uint8_t *at)
+/* How many bytes the first names have together. */
+static uint32_t text_of(const Contract *of, uint32_t names)
 {
+    uint32_t k, bytes = 0;
+    for (k = 0; k < names; k++) bytes += (uint32_t)strlen(of->names[k]);
+    return bytes;
+}
+
+/* Version 1, how many nodes and names, zero; the offsets of nodes, names and text; the total. */
+static uint8_t *put_header(uint8_t *at, const Contract *of)
+{
+    const uint32_t names = 24 + 16 * of->n, text = names + 2 * (of->m + 1);
     at = put(at, 1, 2);
-    at = put(at, 8, 2);
-    at = put(at, 4, 2);
+    at = put(at, of->n, 2);
+    at = put(at, of->m, 2);
     at = put(at, 0, 2);
     at = put(at, 24, 4);
-    at = put(at, 24 + 16 * 8, 4);
-    at = put(at, 24 + 16 * 8 + 2 * 5, 4);
-    return put(at, LENGTH, 4);
+    at = put(at, names, 4);
+    at = put(at, text, 4);
+    return put(at, text + text_of(of, of->m), 4);
 }
 
 /* Kind, zero, name number, end, zero, spans 10i and 10i+1. */
-static uint8_t *put_node(uint8_t *at, uint32_t i, uint32_t kind, uint32_t name, uint32_t end)
+static uint8_t *put_node(uint8_t *at, uint32_t i, const Node *node)
 {
-    at = put(at, kind, 1);
+    at = put(at, node->kind, 1);
     at = put(at, 0, 1);
-    at = put(at, name, 2);
-    at = put(at, end, 2);
+    at = put(at, node->name, 2);
+    at = put(at, node->end, 2);
     at = put(at, 0, 2);
     at = put(at, 10 * i, 4);
     return put(at, 10 * i + 1, 4);
 }
 
-static uint8_t *put_nodes(uint8_t *at)
+/* Where each name begins in the text, and where it ends; the text. */
+static uint8_t *put_names(uint8_t *at, const Contract *of)
 {
-    at = put_node(at, 0, 1, 0, 8);       /* Contract */
-    at = put_node(at, 1, 23, 2, 2);      /*   Name c */
-    at = put_node(at, 2, 9, 0, 8);       /*   Entry */
-    at = put_node(at, 3, 23, 3, 4);      /*     Name e */
-    at = put_node(at, 4, 10, 0, 8);      /*     Param */
-    at = put_node(at, 5, 23, 4, 6);      /*       Name x */
-    at = put_node(at, 6, 11, 0, 8);      /*       Type */
-    return put_node(at, 7, 23, 1, 8);    /*         Name Q_Asset */
+    uint32_t k;
+    for (k = 0; k <= of->m; k++) at = put(at, text_of(of, k), 2);
+    for (k = 0; k < of->m; k++) {
+        memcpy(at, of->names[k], strlen(of->names[k]));
+        at += strlen(of->names[k]);
+    }
+    return at;
 }
 
-/* The text offsets of Q_Asset, c, e, x, and the text. */
-static uint8_t *put_names(uint8_t *at)
+/* Builds the image, and gives its length. */
+static size_t build(const Contract *of, uint8_t *image)
 {
-    at = put(at, 0, 2);
-    at = put(at, 7, 2);
-    at = put(at, 8, 2);
-    at = put(at, 9, 2);
-    at = put(at, 10, 2);
-    memcpy(at, "Q_Assetcex", 10);
-    return at + 10;
-}
-
-static void build_p2(uint8_t image[LENGTH])
-{
-    expect("P2 has 172 bytes", put_names(put_nodes(put_header(image))) == image + LENGTH);
+    uint8_t *at = put_header(image, of);
+    uint32_t i;
+    for (i = 0; i < of->n; i++) at = put_node(at, i, &of->nodes[i]);
+    return (size_t)(put_names(at, of) - image);
 }
 
 /* --- one call, held against what it must answer --- */
@@ -136,6 +188,20 @@ static void list(const char *what, List *part, const uint8_t *image, size_t leng
     expect(what, n == number && count == records && same);
 }
 
+/* Why the lot at `place` of P9 is refused, in `lent` words: what it answers, and that it writes so many. */
+static void why(const char *what, const uint8_t *image, size_t length, size_t place, size_t lent,
+                size_t number, size_t written)
+{
+    static const uint16_t entries[6] = {11, 0, 16, 13, 19, 17};
+    uint16_t words[ROOM];
+    size_t count = UNSET, n, k;
+    int same = 1;
+    for (k = 0; k < ROOM; k++) words[k] = UNSET;
+    n = isonkaypu_why(image, length, place, lent ? words : NULL, lent, &count);
+    for (k = 0; k < ROOM; k++) same = same && words[k] == (k < written ? entries[k] : UNSET);
+    expect(what, n == number && count == written && same);
+}
+
 /* --- the images --- */
 
 static void on_p2(const uint8_t *p2)
@@ -173,6 +239,35 @@ static void lists_of_p2(const uint8_t *p2)
     list("linear's part, counted only", isonkaypu_linear_list, p2, LENGTH, 0, 0, 1, 0);
 }
 
+/* The lot of P2, which nothing uses, is at 5; no other number is a lot's place. */
+static void why_p2(const uint8_t *p2)
+{
+    static const size_t no_lot[] = {0, 1, 4, 6, 7, 8, 2048, 65535, 65536 + 5, SIZE_MAX - 5, SIZE_MAX};
+    size_t k;
+    why("why: nothing uses the lot", p2, LENGTH, 5, ROOM, 0, 0);
+    why("why: no word is asked for", p2, LENGTH, 5, 0, 0, 0);
+    for (k = 0; k < sizeof no_lot / sizeof *no_lot; k++) {
+        why("why: no lot, with room", p2, LENGTH, no_lot[k], ROOM, 13, 0);
+        why("why: no lot, without room", p2, LENGTH, no_lot[k], 0, 13, 0);
+    }
+}
+
+/* The lot of P9: the clause, then the two uses with what takes them. */
+static void why_p9(void)
+{
+    uint8_t p9[P9_LENGTH];
+    expect("P9 with one use more has 380 bytes", build(&P9, p9) == P9_LENGTH);
+    expect("P9 with one use more is admitted", isonkaypu_refusal(p9, P9_LENGTH) == 0);
+    verdict("P9 with one use more: linear", isonkaypu_linear, p9, P9_LENGTH, 62, 5, 50, 51);
+    why("why: with room to spare", p9, P9_LENGTH, 5, ROOM, 0, 6);
+    why("why: in an exact buffer", p9, P9_LENGTH, 5, 6, 0, 6);
+    why("why: one word short", p9, P9_LENGTH, 5, 5, 10, 0);
+    why("why: a whole entry short", p9, P9_LENGTH, 5, 4, 10, 0);
+    why("why: in no words", p9, P9_LENGTH, 5, 0, 10, 0);
+    why("why: an occurrence is no lot", p9, P9_LENGTH, 16, 0, 13, 0);
+    why("why: a clause is no lot", p9, P9_LENGTH, 11, ROOM, 13, 0);
+}
+
 /* Every function refuses the image with this number. */
 static void on_refused(const char *what, const uint8_t *image, size_t length, size_t number)
 {
@@ -191,15 +286,19 @@ static void on_refused(const char *what, const uint8_t *image, size_t length, si
     list(what, isonkaypu_resolve_list, image, length, ROOM, number, 0, 0);
     list(what, isonkaypu_access_list, image, length, ROOM, number, 0, 0);
     list(what, isonkaypu_linear_list, image, length, ROOM, number, 0, 0);
+    why(what, image, length, 5, ROOM, number, 0);
+    why(what, image, length, SIZE_MAX, 0, number, 0);
 }
 
 static void run_all(void)
 {
     uint8_t image[LENGTH];
-    build_p2(image);
+    expect("P2 has 172 bytes", build(&P2, image) == LENGTH);
     on_p2(image);
     questions_of_p2(image);
     lists_of_p2(image);
+    why_p2(image);
+    why_p9();
     image[0] = 2;
     on_refused("version 2", image, LENGTH, 2);
     on_refused("no bytes", NULL, 0, 1);

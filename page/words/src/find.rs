@@ -6,16 +6,17 @@ use crate::{Term, checks, code, explain, explain_list, explain_term, gaps, gloss
 /// What is asked for when somebody wants to know what was not checked.
 const CLAIMS: [&str; 3] = ["not-checked", "not checked", "checked"];
 
-/// The explanation of a number (`62`, `code 62`, `image 5`, `9`) or of a word (`lot`, `burns`, `linear`,
+/// The explanation of a number (`62`, `code 62`, `image 5`, `9`, `13`) or of a word (`lot`, `burns`, `linear`,
 /// `not-checked`); all that there is, where nothing is asked for. `None` where there is nothing by this
 /// name.
 pub fn find(asked: &[&str]) -> Option<String> {
     let number = |text: &str| text.parse::<u16>().ok();
     let entry = match asked {
         [] => return Some(explain_list()),
-        ["image", n] | ["list", "refused", n] => number(n).and_then(refusal),
-        // 9 alone is no code, and a report prints it beside the codes, as `list refused 9`
-        ["9"] => refusal(9),
+        ["image", n] | ["list", "refused", n] => number(n).filter(|n| *n < 10).and_then(refusal),
+        // these alone are no codes: a report prints 9 beside the codes, as `list refused 9`, and 10 and 13 are
+        // what the question why a lot is refused is answered with
+        [n @ ("9" | "10" | "13")] | ["why", "refused", n @ ("10" | "13")] => number(n).and_then(refusal),
         ["code", n] | [n] => number(n).and_then(code),
         _ => None,
     };

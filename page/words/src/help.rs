@@ -1,6 +1,9 @@
 //! The help page and the words of `explain`, made from the file of words.
 
-use crate::{CHECKS, Entry, Gap, OTHER_TEXT, Term, checks, codes, gaps, glossary, lines, refusals, statuses};
+use crate::{
+    CHECKS, Entry, Gap, OTHER_TEXT, Term, USES_OF_A_LOT, checks, codes, gaps, glossary, lines, refusals,
+    statuses,
+};
 
 /// How wide the text of `explain` is.
 const WIDTH: usize = 88;
@@ -9,6 +12,7 @@ const WIDTH: usize = 88;
 fn said(entry: &Entry) -> String {
     match entry.number {
         9 => "list refused 9".to_string(),
+        10..20 => format!("why refused {}", entry.number),
         n if n < 20 => format!("image {n}"),
         n => format!("code {n}"),
     }
@@ -38,15 +42,13 @@ pub fn explain_term(term: &Term) -> String {
 /// `explain` alone: everything that can be asked for.
 pub fn explain_list() -> String {
     let row = |(what, title): (String, &str)| format!("  {what:<10} {title}\n");
-    let refusals: String =
-        refusals().iter().map(|e| row((format!("image {}", e.number), &e.title))).collect();
+    // what is asked for is what finds it: `image 9` too, but 10 and 13 are never an image's
+    let asked = |number: u16| if number < 10 { format!("image {number}") } else { number.to_string() };
+    let refusals: String = refusals().iter().map(|e| row((asked(e.number), &e.title))).collect();
     let codes: String = codes().iter().map(|e| row((e.number.to_string(), &e.title))).collect();
     let word = |term: &'static Term| term.word.as_str();
     let terms: Vec<&str> = glossary().iter().chain(checks()).map(word).chain(["not-checked"]).collect();
-    format!(
-        "Refusals of an image\n{refusals}\nFaults of a contract\n{codes}\nWords\n{}",
-        wrapped(&terms.join(", "))
-    )
+    format!("Refusals\n{refusals}\nFaults of a contract\n{codes}\nWords\n{}", wrapped(&terms.join(", ")))
 }
 
 /// The last lines of a report on a contract, for people: what was checked, what was not, and where to
@@ -115,6 +117,7 @@ pub fn help_page() -> String {
         section("Words", "", &terms(glossary())),
         section("The lines of a report", LINES, &terms(lines_of_numbers())),
         section("The same for people", PEOPLE, &people()),
+        section("Why is this lot refused?", WHY, &terms(lines_of_why())),
         section("Checked", CHECKED, &terms(checks())),
         section("Not checked", NOT_CHECKED, &gaps().iter().map(gap_entry).collect::<Vec<_>>().join("\n")),
         section("Exit statuses", STATUSES, &terms(statuses())),
@@ -145,6 +148,13 @@ each fault in its line. Its last lines say what was checked and what was not:
 
 ";
 
+const WHY: &str = "\
+Under each 61 and 62 the report shows every use of the lot. `isonkaypu why FILE NODE` asks the same of one lot, also of
+one that is as it should be; with `--source TEXT` each use stands in its line. NODE is the number of the lot's place: in
+the line of a 61 or 62 it is the second number. For a number that is no lot's the command names the places of all lots.
+
+";
+
 const CHECKED: &str = "\
 Three checks run, by the rules 20 to 62 below. They see to it that:
 
@@ -161,7 +171,8 @@ Of `isonkaypu` and of `./report`, for programs that call them.
 ";
 
 const IMAGE: &str = "\
-Given before anything is checked; the first that applies is given. 1 to 8 are printed as `image N`.
+Given before anything is checked; the first that applies is given. 1 to 8 are printed as `image N`. 9 is about the list
+alone, 10 and 13 about the question why a lot is refused: 13 is tested before 10.
 
 ";
 
@@ -185,17 +196,29 @@ fn people() -> String {
     format!("{}\n{}", inset(&last_lines(Some(62))), terms(lines_for_people()))
 }
 
-/// The lines of numbers come first, then those for people.
+/// The lines of numbers come first, then those for people, then those of the answer why.
 fn lines_of_numbers() -> &'static [Term] {
     &lines()[..first_for_people()]
 }
 
 fn lines_for_people() -> &'static [Term] {
-    &lines()[first_for_people()..]
+    &lines()[first_for_people()..first_of_why()]
+}
+
+fn lines_of_why() -> &'static [Term] {
+    &lines()[first_of_why()..]
 }
 
 fn first_for_people() -> usize {
-    lines().iter().position(|t| t.word == OTHER_TEXT).unwrap_or(lines().len())
+    position(OTHER_TEXT)
+}
+
+fn first_of_why() -> usize {
+    position(USES_OF_A_LOT)
+}
+
+fn position(word: &str) -> usize {
+    lines().iter().position(|t| t.word == word).unwrap_or(lines().len())
 }
 
 fn gap_entry(gap: &Gap) -> String {

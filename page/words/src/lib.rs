@@ -41,6 +41,8 @@ pub struct Entry {
     pub first: String,
     /// The same of uses after the second.
     pub more: String,
+    /// The same of a `burns` clause that is the only use, of a lot that has no fault.
+    pub only: String,
     /// The same of a `burns` clause, which is the first use.
     pub clause: String,
     /// The same of each `burns` clause where they alone use it more than once.
@@ -115,6 +117,9 @@ pub struct Words {
 /// How a report for people begins where the text that was given is not the image's.
 pub const OTHER_TEXT: &str = "OTHER TEXT";
 
+/// How the answer to `isonkaypu why` begins, as the help page has it.
+pub const USES_OF_A_LOT: &str = "N USES  FILE: the lot NAME of entry ENTRY, node NODE";
+
 /// What people call the three checks, in the order in which they run.
 pub const CHECKS: [&str; 3] = ["names", "access", "lots"];
 
@@ -122,8 +127,8 @@ pub const CHECKS: [&str; 3] = ["names", "access", "lots"];
 pub const CODES: &[u16] =
     &[20, 21, 22, 23, 24, 25, 26, 27, 28, 29, 30, 31, 32, 33, 34, 35, 36, 37, 38, 39, 40, 50, 51, 60, 61, 62];
 
-/// The refusals of document 01.
-pub const REFUSALS: &[u16] = &[1, 2, 3, 4, 5, 6, 7, 8, 9];
+/// The refusals of documents 01 and 02.
+pub const REFUSALS: &[u16] = &[1, 2, 3, 4, 5, 6, 7, 8, 9, 10, 13];
 
 /// The codes that speak of another place: those whose records can have a related place, and those whose
 /// other declaration is found in the tree (24, 26, 28, 29, 31).
@@ -146,6 +151,7 @@ pub const BLANKS: &[&str] = &[
     "given",
     "declared",
     "writes",
+    "taker",
     // those of a case
     "near",
     "fresh",
@@ -172,7 +178,7 @@ pub fn code(number: u16) -> Option<&'static Entry> {
     codes().iter().find(|e| e.number == number)
 }
 
-/// The words for a refusal, 1 to 9.
+/// The words for a refusal: 1 to 8 of an image, 9 of the list, 10 and 13 of the question why.
 pub fn refusal(number: u16) -> Option<&'static Entry> {
     refusals().iter().find(|e| e.number == number)
 }

@@ -159,13 +159,13 @@ fn gap(section: &Section, before: &[Gap]) -> Result<Gap, Trouble> {
 
 /// The fields of a code, beside its cases. A refusal has no place, so it has none of those of places.
 const FIELDS: &[&str] = &[
-    "title", "fault", "burned", "twice", "here", "there", "first", "more", "clause", "clauses", "means",
-    "matters", "mend", "how", "before", "after",
+    "title", "fault", "burned", "twice", "here", "there", "first", "more", "only", "clause", "clauses",
+    "means", "matters", "mend", "how", "before", "after",
 ];
 
 fn entry(section: &Section, numbers: &[u16], before: &[Entry]) -> Result<Entry, Trouble> {
     let Some(number) = section.of.parse().ok().filter(|n| numbers.contains(n)) else {
-        return trouble(section.line, format!("document 01 has no `{} {}`", section.kind, section.of));
+        return trouble(section.line, format!("the documents have no `{} {}`", section.kind, section.of));
     };
     if before.iter().any(|e| e.number == number) {
         return trouble(section.line, format!("`{} {number}` stands twice", section.kind));
@@ -195,6 +195,7 @@ fn placed(section: &Section, number: u16) -> Result<Entry, Trouble> {
         there: where_true(others, "there")?,
         first: where_true(uses, "first")?,
         more: where_true(uses, "more")?,
+        only: where_true(uses, "only")?,
         clause: where_true(uses, "clause")?,
         clauses: where_true(uses, "clauses")?,
         means: needed(section, "means")?,
@@ -260,7 +261,8 @@ fn value(field: &Field) -> String {
 }
 
 /// The fields that are sentences and labels of a report, beside the mends.
-const SAID: &[&str] = &["fault", "burned", "twice", "here", "there", "first", "more", "clause", "clauses"];
+const SAID: &[&str] =
+    &["fault", "burned", "twice", "here", "there", "first", "more", "only", "clause", "clauses"];
 
 /// Blanks stand in the sentences of codes only, and each is known.
 fn blanks_known(section: &Section) -> Result<(), Trouble> {

@@ -268,3 +268,35 @@ fn maxima() {
     // the report's list has 32,768 words, three to a record
     said(9, 32_768 / 3);
 }
+
+/// "4,096 words are enough for every image": two for each node, and each clause or use has a node of its own.
+#[test]
+fn room_for_every_use() {
+    assert_eq!(2 * form::image::MAX_NODES, 4_096);
+    let how = &words::refusal(10).expect("10").how;
+    assert!(how.contains("two words for each clause and each use; 4,096 words are enough"), "{how}");
+}
+
+/// "the line `61 5 0 50 51` is about the lot at node 5", and every other number is no lot's.
+#[test]
+fn the_number_of_a_lot() {
+    let how = &words::refusal(13).expect("13").how;
+    assert!(how.contains("the line `61 5 0 50 51` is about the lot at node 5"), "{how}");
+    let image = example::image("contract c { entry e(x: Q_Asset) { } }");
+    let lots: Vec<usize> = isonkaypu::lots(&image).expect("lots").iter().map(|lot| lot.place.node).collect();
+    assert_eq!(lots, [5]);
+    assert_eq!(isonkaypu::why(&image, 4), Err(isonkaypu::WhyError::NoLot(4)));
+}
+
+/// "Of calls within each other it is the inner one", as the lines of the answer say.
+#[test]
+fn the_inner_call_takes_the_lot() {
+    let line = words::lines().iter().find(|line| line.word.starts_with("used here, ")).expect("the line");
+    assert!(line.means.contains("Of calls within each other it is the inner one."), "{}", line.means);
+    let text = "contract C { entry e(lot: Q_Asset<M>) { s.get(s.set(lot)); } }";
+    let image = example::image(text);
+    let lot = isonkaypu::lots(&image).expect("lots").remove(0);
+    let [reason] = &lot.reasons[..] else { panic!("{:?}", lot.reasons) };
+    let consumer = reason.consumer().expect("a call").span;
+    assert_eq!(&text[consumer.start as usize..consumer.end as usize], "s.set(lot)");
+}

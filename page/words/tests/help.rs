@@ -65,6 +65,10 @@ fn explain_finds_what_is_asked_for() {
     }
     begins("9", "list refused 9: ");
     begins("list refused 9", "list refused 9: ");
+    for number in ["10", "13"] {
+        begins(number, &format!("why refused {number}: "));
+        begins(&format!("why refused {number}"), &format!("why refused {number}: "));
+    }
     for (pass, check) in [("resolve", "names"), ("access", "access"), ("linear", "lots")] {
         begins(pass, &format!("The check of {check}\n"));
         begins(check, &format!("The check of {check}\n"));
@@ -80,7 +84,7 @@ fn explain_finds_what_is_asked_for() {
     for word in listed.split(',').map(str::trim) {
         assert!(words::find(&word.split_whitespace().collect::<Vec<_>>()).is_some(), "{word}");
     }
-    for unknown in ["63", "5", "image 10", "box", "0"] {
+    for unknown in ["63", "5", "image 10", "image 13", "list refused 13", "11", "12", "box", "0"] {
         assert_eq!(words::find(&unknown.split(' ').collect::<Vec<_>>()), None, "{unknown}");
     }
 }

@@ -16,8 +16,8 @@ fn the_shipped_file_is_whole() {
     for word in ["contract", "entry", "state", "lot", "genesis", "clause", "event", "invariant", "asset"] {
         assert!(words.glossary.iter().any(|t| t.word == word), "no `{word}` in the glossary");
     }
-    assert_eq!((words.lines.len(), words.statuses.len()), (9, 4));
-    assert_eq!(words.lines[7].word, words::OTHER_TEXT);
+    assert_eq!((words.lines.len(), words.statuses.len()), (14, 4));
+    assert_eq!([7, 9].map(|i| words.lines[i].word.as_str()), [words::OTHER_TEXT, words::USES_OF_A_LOT]);
     assert_eq!(words.checks.iter().map(|t| t.word.as_str()).collect::<Vec<_>>(), words::CHECKS);
     for word in ["supply (conserve)", "signed authority", "amounts", "undeclared names", "undeclared types"] {
         assert!(words.gaps.iter().any(|g| g.word == word), "no gap `{word}`");
@@ -28,8 +28,8 @@ fn the_shipped_file_is_whole() {
 fn missing() {
     assert_eq!(trouble("title: a lot is never used\n", ""), "`title:` is missing in [code 61]");
     assert_eq!(trouble("title: a lot is never used\n", "title:\n"), "`title:` is missing in [code 61]");
-    assert_eq!(trouble("there: its second use\n", ""), "`there:` is missing in [code 62]");
-    for field in ["burned", "twice", "first", "more", "clause", "clauses"] {
+    assert_eq!(trouble("there: its second use, {taker}\n", ""), "`there:` is missing in [code 62]");
+    for field in ["burned", "twice", "first", "more", "only", "clause", "clauses"] {
         let line = WORDS.lines().find(|line| line.starts_with(&format!("{field}: "))).expect("a field of 62");
         assert_eq!(trouble(&format!("{line}\n"), ""), format!("`{field}:` is missing in [code 62]"));
     }
@@ -76,9 +76,9 @@ fn doubled() {
 
 #[test]
 fn unknown() {
-    assert_eq!(trouble("[code 61]", "[code 63]"), "document 01 has no `code 63`");
-    assert_eq!(trouble("[image 9]", "[image 10]"), "document 01 has no `image 10`");
-    assert_eq!(trouble("[image 9]", "[image nine]"), "document 01 has no `image nine`");
+    assert_eq!(trouble("[code 61]", "[code 63]"), "the documents have no `code 63`");
+    assert_eq!(trouble("[image 9]", "[image 11]"), "the documents have no `image 11`");
+    assert_eq!(trouble("[image 9]", "[image nine]"), "the documents have no `image nine`");
     assert_eq!(trouble("[image 9]", "[picture 9]"), "`picture` is no kind of entry");
     assert_eq!(trouble("title: a lot is", "heading: a lot is"), "`heading:` is no field of this entry");
     assert_eq!(trouble("lot `{other}` a", "lot `{lot}` a"), "`{lot}` is no blank of `fault:`");
@@ -132,5 +132,5 @@ fn the_line_is_told() {
     let line = WORDS.lines().position(|l| l == "[code 61]").expect("61") + 1;
     let wrong = WORDS.replacen("[code 61]", "[code 63]", 1);
     let told = read(&wrong).map_err(|t| (t.line, t.to_string()));
-    assert_eq!(told, Err((line, format!("line {line}: document 01 has no `code 63`"))));
+    assert_eq!(told, Err((line, format!("line {line}: the documents have no `code 63`"))));
 }
