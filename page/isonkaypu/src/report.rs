@@ -4,7 +4,7 @@
 use crate::answers::Answers;
 use crate::offence::{Offence, Place, counts_uses};
 use crate::why::Said;
-use crate::{Doubt, Pass};
+use crate::{Doubt, Lot, Pass, WhyError};
 use form::Tree;
 use isonkaypu_sys::Answer;
 use quanta_lexer::Span;
@@ -93,6 +93,18 @@ impl Report {
     /// Why the report is not to be relied on: empty with the library that is proved.
     pub fn doubts(&self) -> &[Doubt] {
         &self.doubts
+    }
+
+    /// The lot at a node, with every use of it, as `crate::why` has it. An answer that does not go with the list
+    /// is none: a lot with exactly one use has no 61 and no 62, any other has one with the same uses.
+    pub fn why(&self, place: usize) -> Result<Lot, WhyError> {
+        let lot = crate::why(&self.image, place)?;
+        let of_lot = |offence: &&Offence| counts_uses(offence.code) && offence.place == lot.place;
+        let fits = match self.offences.iter().find(of_lot) {
+            Some(offence) => offence.reasons.as_ref() == Some(&lot.reasons),
+            None => lot.reasons.len() == 1,
+        };
+        if fits { Ok(lot) } else { Err(WhyError::Doubted) }
     }
 
     /// The image that was checked.

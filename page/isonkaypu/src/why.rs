@@ -88,8 +88,9 @@ pub enum WhyError {
     Image(ImageRefusal),
     /// No lot stands at this node, or there is no such node: the library's 13.
     NoLot(usize),
-    /// The library's answer cannot be read, which it is proved never to come to.
-    Unread,
+    /// The library's answer cannot be read, or does not go with the report. It is proved that it gives none of
+    /// this sort.
+    Doubted,
 }
 
 impl fmt::Display for WhyError {
@@ -97,7 +98,7 @@ impl fmt::Display for WhyError {
         match self {
             WhyError::Image(refusal) => refusal.fmt(f),
             WhyError::NoLot(place) => write!(f, "no lot stands at node {place}"),
-            WhyError::Unread => write!(f, "the checker gave an answer that nobody can read"),
+            WhyError::Doubted => write!(f, "the checker's answer about this lot cannot be relied on"),
         }
     }
 }
@@ -122,19 +123,21 @@ pub fn why(image: &[u8], place: usize) -> Result<Lot, WhyError> {
 /// Every lot of the contract, in the order of the text.
 pub fn lots(image: &[u8]) -> Result<Vec<Lot>, WhyError> {
     ImageRefusal::unless_admitted(isonkaypu_sys::refusal(image)).map_err(WhyError::Image)?;
-    let tree = Tree::of(image).ok_or(WhyError::Unread)?;
-    // which of these are lots the library says; nobody is asked about nodes of other kinds
-    let named = |node: &usize| matches!(tree.kind(*node), kind::NAME | kind::LET);
-    let asked = tree.all().filter(named).map(|place| lot(Some(&tree), place, &Said::of(image, place)));
+    let tree = Tree::of(image).ok_or(WhyError::Doubted)?;
+    // which of these are lots the library says; at no other node does one stand
+    let named = |node: &usize| tree.kind(*node) == kind::PARAM || tree.kind(*node) == kind::LET;
+    let place = |node: usize| if tree.kind(node) == kind::PARAM { node + 1 } else { node };
+    let asked = tree.all().filter(named).map(place);
+    let asked = asked.map(|place| lot(Some(&tree), place, &Said::of(image, place)));
     asked.filter(|answer| !matches!(answer, Err(WhyError::NoLot(_)))).collect()
 }
 
 /// The lot at a place, by what the library says of it.
 fn lot(tree: Option<&Tree>, place: usize, said: &Said) -> Result<Lot, WhyError> {
     let words = said.words(place)?;
-    let tree = tree.ok_or(WhyError::Unread)?;
-    let reasons = reasons(tree, words).ok_or(WhyError::Unread)?;
-    let at = Place::of(tree, place).ok_or(WhyError::Unread)?;
+    let tree = tree.ok_or(WhyError::Doubted)?;
+    let reasons = reasons(tree, words).ok_or(WhyError::Doubted)?;
+    let at = Place::of(tree, place).ok_or(WhyError::Doubted)?;
     // a lot is called the same, whichever its code is
     Ok(Lot { place: at, name: name_of(tree, 62, place), reasons })
 }
@@ -164,11 +167,11 @@ impl Said {
     /// The words that were written, or why there are none.
     fn words(&self, place: usize) -> Result<&[u16], WhyError> {
         match self.number {
-            0 => self.words.get(..self.count).ok_or(WhyError::Unread),
+            0 => self.words.get(..self.count).ok_or(WhyError::Doubted),
             NO_LOT => Err(WhyError::NoLot(place)),
             number => match ImageRefusal::unless_admitted(number) {
                 Err(refusal) if refusal != ImageRefusal::UNKNOWN => Err(WhyError::Image(refusal)),
-                _ => Err(WhyError::Unread),
+                _ => Err(WhyError::Doubted),
             },
         }
     }
@@ -239,7 +242,7 @@ mod tests {
         let words = |number, count| Said { number, count, words: vec![0; 4] }.words(5).map(<[u16]>::len);
         assert_eq!([words(0, 4), words(0, 0)], [Ok(4), Ok(0)]);
         for (number, count) in [(0, 5), (0, usize::MAX), (9, 0), (10, 0), (12, 0), (14, 2), (usize::MAX, 0)] {
-            assert_eq!(words(number, count), Err(WhyError::Unread), "{number} {count}");
+            assert_eq!(words(number, count), Err(WhyError::Doubted), "{number} {count}");
         }
         assert_eq!(words(13, 0), Err(WhyError::NoLot(5)));
     }

@@ -47,6 +47,8 @@ impl Blanks<'_> {
             "count" => self.items(kind::ASSET).count().to_string(),
             "given" => values(self.tree.children(node).skip(1).count()),
             "declared" => values(self.declared(node + 1)),
+            // of a use that the library has said more of, what takes it is filled in already
+            "taker" => "in a statement".to_string(),
             _ => String::new(),
         }
     }

@@ -1,20 +1,16 @@
 //! What a contract declares and does, found in its tree: what advice and other places are made from.
 //! Nothing here judges; the library has judged.
 
+use crate::lots::Lots;
 use form::image::MAX_NAME;
 use form::{Tree, kind};
+use isonkaypu::Lot;
 
-/// The tree of a contract, asked for what stands in it.
+/// The tree of a contract, asked for what stands in it, and its lots.
 #[derive(Clone, Copy)]
 pub struct Facts<'t> {
     pub tree: &'t Tree<'t>,
-}
-
-/// Something that the linear check watches: document 01's tracked rows.
-pub struct Row {
-    pub name: String,
-    /// A parameter's Name, or a Let.
-    pub place: usize,
+    pub lots: &'t Lots<'t>,
 }
 
 /// What a number behind a name takes at most.
@@ -179,19 +175,11 @@ impl<'t> Facts<'t> {
         statements.next().unwrap_or(end)..end
     }
 
-    /// Document 01: "Tracked, in order".
-    pub fn rows(&self, entry: usize) -> Vec<Row> {
-        let lots = self.parts(entry, kind::PARAM).filter(|param| self.is_of_type(*param, "Q_Asset"));
-        let lots = lots.map(|param| Row { name: self.text(param + 1), place: param + 1 });
-        let lets = self.parts(entry, kind::LET).filter(|one| self.makes_a_lot(*one));
-        lots.chain(lets.map(|one| Row { name: self.text(one + 1), place: one })).collect()
-    }
-
-    fn makes_a_lot(&self, one: usize) -> bool {
-        let call = self.peeled(one + 2);
-        let split = self.method(call).is_some_and(|(_, name)| self.is(name, "split"));
-        let mint = self.tree.kind(call + 1) == kind::IDENT && self.is(call + 1, "mint");
-        self.tree.kind(call) == kind::CALL && (split || mint)
+    /// The lots of an entry: document 01's tracked rows, in order.
+    pub fn lots(&self, entry: usize) -> impl DoubleEndedIterator<Item = &'t Lot> + use<'t> {
+        let inside = entry..self.tree.end(entry);
+        let is_entry = self.tree.kind(entry) == kind::ENTRY;
+        self.lots.all().iter().filter(move |lot| is_entry && inside.contains(&lot.place.node))
     }
 
     /// Document 01: "Counted occurrences", in preorder.
@@ -217,46 +205,27 @@ impl<'t> Facts<'t> {
         }
     }
 
-    /// The rows that have the name of the row at a place, in order; none where no row stands there.
-    fn rows_of_its_name(&self, entry: usize, place: usize) -> Vec<Row> {
-        let mut rows = self.rows(entry);
-        let name = rows.iter().find(|row| row.place == place).map(|row| row.name.clone());
-        rows.retain(|row| Some(&row.name) == name.as_ref());
-        rows
+    /// What is called, or assigned to, as it stands: names with points between them.
+    fn path(&self, node: usize) -> Option<String> {
+        match self.tree.kind(node) {
+            kind::IDENT => Some(self.text(node)),
+            kind::CALLER => Some("caller".to_string()),
+            kind::FIELD => Some(format!("{}.{}", self.path(node + 1)?, self.text(self.tree.end(node + 1)))),
+            _ => None,
+        }
     }
 
-    /// The uses in statements that count for the row at a place: those of its name, where it is the last row
-    /// of that name.
-    pub fn uses_of(&self, entry: usize, place: usize) -> Vec<usize> {
-        let rows = self.rows_of_its_name(entry, place);
-        let Some(row) = rows.last().filter(|last| last.place == place) else {
-            return vec![];
-        };
-        self.uses(entry).into_iter().filter(|one| self.is(*one, &row.name)).collect()
-    }
-
-    /// Document 01's burn marks of the row at a place, where it is the first row of its name: for each the
-    /// Name in the first Burns clause that gives it, in the order of the parameters. One clause can mark two
-    /// parameters of one name, and is here twice then.
-    pub fn marks_of(&self, entry: usize, place: usize) -> Vec<usize> {
-        let rows = self.rows_of_its_name(entry, place);
-        let Some(row) = rows.first().filter(|first| first.place == place) else {
-            return vec![];
-        };
-        let named = self.parts(entry, kind::PARAM).filter(|param| self.is(param + 1, &row.name));
-        named.filter_map(|param| self.asset_of(param)).filter_map(|asset| self.burns(entry, asset)).collect()
-    }
-
-    /// Whether nothing uses the row at a place but the Burns clause with this Name.
-    pub fn only_burned_by(&self, name: usize, entry: usize, place: usize) -> bool {
-        let marks = self.marks_of(entry, place);
-        !marks.is_empty() && marks.iter().all(|by| *by == name) && self.uses_of(entry, place).is_empty()
-    }
-
-    /// The Name in the first Burns clause of the entry that is this asset's.
-    fn burns(&self, entry: usize, asset: usize) -> Option<usize> {
-        let mut named = self.parts(entry, kind::BURNS).map(|clause| clause + 1);
-        named.find(|name| self.tree.text(*name) == self.tree.text(asset))
+    /// What takes a lot, in words: the Call that it is handed to, or the Assign that stores it.
+    pub fn taker(&self, consumer: usize) -> String {
+        match (self.tree.kind(consumer), self.path(consumer + 1)) {
+            (kind::ASSIGN, Some(path)) => format!("stored in `{path}`"),
+            (kind::ASSIGN, None) => "stored".to_string(),
+            (_, Some(path)) => format!("taken by the call `{path}`"),
+            (_, None) => match self.method(consumer) {
+                Some((_, name)) => format!("taken by the method `{}`", self.text(name)),
+                None => "taken by a call".to_string(),
+            },
+        }
     }
 
     /// Whether a text stands anywhere in the contract.
@@ -280,17 +249,24 @@ impl<'t> Facts<'t> {
 #[cfg(test)]
 mod tests {
     use super::*;
+    use crate::lots::{clauses, uses};
 
-    /// For each row of the only entry, the text from the Name of each of its marks on.
-    fn marks(parameters: &str, clauses: &str, body: &str) -> Vec<Vec<String>> {
+    /// What is asked of the only entry of a contract.
+    fn asked<T>(parameters: &str, clauses: &str, body: &str, ask: impl Fn(&str, Facts, usize) -> T) -> T {
         let text = format!("contract C {{ entry e({parameters}) {clauses} {{ {body} }} }}");
         let image = example::image(&text);
         let tree = Tree::of(&image).expect("a tree");
-        let facts = Facts { tree: &tree };
+        let facts = Facts { tree: &tree, lots: &Lots::of(&image) };
         let entry = facts.items(kind::ENTRY).next().expect("an entry");
-        let from = |name: usize| text[tree.nodes[name].from as usize..].replace(" {  } }", "");
-        let of_row = |row: Row| facts.marks_of(entry, row.place).into_iter().map(from).collect();
-        facts.rows(entry).into_iter().map(of_row).collect()
+        ask(&text, facts, entry)
+    }
+
+    /// For each lot, the text from the Name of each clause that burns it on.
+    fn marks(parameters: &str, clauses_: &str, body: &str) -> Vec<Vec<String>> {
+        asked(parameters, clauses_, body, |text, facts, entry| {
+            let from = |name: usize| text[facts.tree.nodes[name].from as usize..].replace(" {  } }", "");
+            facts.lots(entry).map(|lot| clauses(&lot.reasons).map(from).collect()).collect()
+        })
     }
 
     #[test]
@@ -311,5 +287,31 @@ mod tests {
         assert_eq!(marks("", "burns M", "let x = mint(1);"), [[""; 0]]);
         let later = marks("x: Q_Asset<M>", "burns M", "let x = mint(1);");
         assert_eq!(later.iter().map(Vec::len).collect::<Vec<_>>(), [1, 0]);
+    }
+
+    /// What takes the lot at each of its uses.
+    #[test]
+    fn takers() {
+        let body = "send(1, x); s.merge(x); s.part.set(x); s.get(1).insert(checked(x)); checked(send)(x); s = x; \
+                    s.part = x; s.get(s.set(x)); caller.pay(x); s.get(1).part = x;";
+        let takers = asked("x: Q_Asset<M>", "", body, |_, facts, entry| {
+            let lot = facts.lots(entry).next().expect("a lot");
+            assert_eq!(uses(&lot.reasons).count(), lot.reasons.len());
+            let consumers = lot.reasons.iter().filter_map(|reason| reason.consumer());
+            consumers.map(|consumer| facts.taker(consumer.node)).collect::<Vec<_>>()
+        });
+        let expected = [
+            "taken by the call `send`",
+            "taken by the call `s.merge`",
+            "taken by the call `s.part.set`",
+            "taken by the method `insert`",
+            "taken by a call",
+            "stored in `s`",
+            "stored in `s.part`",
+            "taken by the call `s.set`",
+            "taken by the call `caller.pay`",
+            "stored",
+        ];
+        assert_eq!(takers, expected);
     }
 }

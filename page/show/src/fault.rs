@@ -4,7 +4,10 @@ use crate::advice::Asked;
 use crate::blanks::{Blanks, text};
 use crate::edit::Way;
 use crate::facts::Facts;
+use crate::lots::{Lots, clauses};
 use crate::others::others;
+use crate::uses::{Use, places, uses};
+use form::Tree;
 use isonkaypu::{Doubt, Offence, Pass, Report, Span};
 use std::borrow::Cow;
 use words::{Case, Entry};
@@ -23,6 +26,15 @@ pub struct Mark {
     pub listed: bool,
 }
 
+impl Mark {
+    /// The mark of a node, which stands where the tree says.
+    pub(crate) fn of(tree: &Tree, node: usize, label: String, listed: bool) -> Mark {
+        let span =
+            tree.nodes.get(node).map_or(Span { start: 0, end: 0 }, |n| Span { start: n.from, end: n.to });
+        Mark { node, span, label, listed }
+    }
+}
+
 /// An offence in words.
 #[derive(Clone, Debug, PartialEq)]
 #[non_exhaustive]
@@ -39,6 +51,9 @@ pub struct Fault {
     pub here: Mark,
     /// Other places that the rule speaks of, as they stand in the contract: another declaration, other uses.
     pub others: Vec<Mark>,
+    /// Every use of a lot that is not used exactly once, in the library's order (61 and 62); nothing for other
+    /// codes. `others` has the same places in the order of the text, each once.
+    pub reasons: Option<Vec<Use>>,
     /// How to mend it, in one line.
     pub mend: String,
     /// Which case of its code it is: that of `mend`.
@@ -65,9 +80,10 @@ pub fn faults(report: &Report) -> Vec<Fault> {
     };
     let nothing = Entry::default();
     let offences = offences(report);
+    let facts = Facts { tree: &tree, lots: &Lots::of(report.image()) };
     let in_words = |offence: &Offence| {
         let entry = words::code(offence.code).unwrap_or(&nothing);
-        fault(entry, &Asked { facts: Facts { tree: &tree }, offence, offences: &offences })
+        fault(entry, &Asked { facts, offence, offences: &offences })
     };
     offences.iter().map(in_words).collect()
 }
@@ -95,32 +111,29 @@ fn fault(entry: &Entry, asked: &Asked) -> Fault {
     let (tree, node) = (facts.tree, offence.place.node);
     let advice = asked.advice();
     let blanks = Blanks { tree, offence, of_case: &advice.blanks };
-    let span = |node: usize| {
-        tree.nodes.get(node).map_or(Span { start: 0, end: 0 }, |n| Span { start: n.from, end: n.to })
-    };
-    let mark = |node, label: &str, listed| Mark { node, span: span(node), label: blanks.fill(label), listed };
-    let in_entry = tree.entry_of(node);
+    let listed = |of: usize| of == node || offence.related.is_some_and(|related| related.node == of);
+    let mark = |of: usize, label: &str| Mark::of(tree, of, blanks.fill(label), listed(of));
+    let reasons = offence.reasons.as_ref().map(|reasons| uses(facts, reasons, entry, mark));
+    let there = || others(facts, offence).into_iter().map(|other| mark(other, &entry.there)).collect();
     Fault {
         code: offence.code,
         pass: Pass::of_code(offence.code).unwrap_or(Pass::Resolve),
         title: entry.title.clone(),
-        sentence: blanks.fill(sentence(entry, asked)),
-        here: mark(node, &entry.here, true),
-        others: others(facts, offence, entry).iter().map(|o| mark(o.node, o.label, o.listed)).collect(),
+        sentence: blanks.fill(sentence(entry, offence)),
+        here: mark(node, &entry.here),
+        others: reasons.as_deref().map_or_else(there, places),
+        reasons,
         mend: blanks.fill(entry.mend_for(advice.case)),
         case: advice.case,
         ways: advice.ways,
-        entry: in_entry.map(|entry| text(tree, entry + 1)),
+        entry: tree.entry_of(node).map(|entry| text(tree, entry + 1)),
     }
 }
 
-/// The sentence of an offence. Of a lot that is used more than once it says where `burns` is a use: the marks
-/// of the lot decide that, never whether the list has a related place.
-fn sentence<'w>(entry: &'w Entry, asked: &Asked) -> &'w str {
-    let Asked { facts, offence, .. } = *asked;
-    let node = offence.place.node;
-    let within = facts.tree.entry_of(node).filter(|_| offence.code == words::USES);
-    match within.map_or(0, |within| facts.marks_of(within, node).len()) {
+/// The sentence of an offence. Of a lot that is used more than once it says where `burns` is a use: the clauses
+/// among its reasons decide that, never whether the list has a related place.
+fn sentence<'w>(entry: &'w Entry, offence: &Offence) -> &'w str {
+    match clauses(offence.reasons.as_deref().unwrap_or_default()).count() {
         0 => &entry.fault,
         1 => &entry.burned,
         _ => &entry.twice,

@@ -6,7 +6,7 @@ pub mod value;
 use crate::about::{self, TOOL, VERSION};
 use crate::region::Region;
 use crate::unread::Unread;
-use crate::{Difference, Fault, Mark, Source, Subject, Text, faults, sha256};
+use crate::{Difference, Fault, Mark, Source, Subject, Text, Use, faults, sha256};
 use isonkaypu::{Doubt, Pass, Report, Span};
 use value::{Value, list, object};
 
@@ -143,6 +143,10 @@ fn offence(fault: &Fault, name: Option<&str>, source: Option<&Source>) -> Value 
         ("entry", fault.entry.as_deref().into()),
         ("place", place(&fault.here, source)),
         ("related", list(fault.related().map(|mark| related(mark, source)))),
+        (
+            "reasons",
+            fault.reasons.as_ref().map(|uses| list(uses.iter().map(|one| reason(one, source)))).into(),
+        ),
         ("mend", fault.mend.as_str().into()),
     ])
 }
@@ -150,6 +154,16 @@ fn offence(fault: &Fault, name: Option<&str>, source: Option<&Source>) -> Value 
 /// Another place; whether it is document 01's related place, or found beside it.
 fn related(mark: &Mark, source: Option<&Source>) -> Value {
     place(mark, source).with("listed", Some(mark.listed.into()))
+}
+
+/// One use of a lot: by a clause, or in a statement, with what takes it there.
+fn reason(one: &Use, source: Option<&Source>) -> Value {
+    let kind = if one.consumer.is_none() { "clause" } else { "use" };
+    object([
+        ("kind", kind.into()),
+        ("place", place(&one.place, source)),
+        ("consumer", one.consumer.as_ref().map(|consumer| place(consumer, source)).into()),
+    ])
 }
 
 fn place(mark: &Mark, source: Option<&Source>) -> Value {

@@ -1,5 +1,9 @@
 //! A report for people at a terminal: a banner, each fault with its place in the source and how to
-//! mend it, and what was not checked.
+//! mend it, and what was not checked; and the answer why one lot is refused.
+
+mod why;
+
+pub use why::{why, why_in_colour};
 
 use crate::about::made_by;
 use crate::excerpt::Excerpt;
@@ -71,17 +75,12 @@ fn mend(how: &str, ink: Ink) -> String {
 fn checked(subject: &Subject, report: &Report, ink: Ink) -> String {
     let faults = faults(report);
     let source = subject.source().map(Source::of);
-    let placed: Vec<_> = faults.iter().map(|fault| placed(fault, source.as_ref())).collect();
-    let lines = placed.iter().flatten().filter_map(|place| place.excerpt.as_ref().map(|e| e.line));
-    let width = lines.max().unwrap_or(0).to_string().len();
-    let page =
-        Page { label: safe(subject.label()), tree: report.tree(), source: source.is_some(), width, ink };
+    let placed: Vec<_> =
+        faults.iter().map(|fault| placed(&fault.here, &fault.others, source.as_ref())).collect();
+    let page = Page::of(subject, placed.iter().flatten(), ink);
     let mut text = opening(subject, report, faults.len(), ink);
     for (fault, placed) in faults.iter().zip(&placed) {
-        let head = ink.bad(&format!("[{}]", fault.code));
-        text += &headed(&head, &fault.code.to_string(), &fault.sentence);
-        text += &placed.chunk_by(Placed::on_one_line).map(|places| page.places(places)).collect::<String>();
-        text += &(mend(&fault.mend, ink) + "\n");
+        text += &(page.fault(fault, placed) + "\n");
     }
     text + &summary(report, &faults) + &words::last_lines(faults.first().map(|fault| fault.code))
 }
@@ -89,21 +88,33 @@ fn checked(subject: &Subject, report: &Report, ink: Ink) -> String {
 /// The banner and what is to be said before the faults.
 fn opening(subject: &Subject, report: &Report, count: usize, ink: Ink) -> String {
     let (answer, what) = answer(report, count);
-    let doubts: String = report.doubts().iter().map(|doubt| format!("in doubt: {doubt}\n")).collect();
-    let line = |text: String| wrapped(&text, 0, 0) + "\n";
-    let label = safe(subject.label());
+    let inked = if report.accepted() { ink.good(answer) } else { ink.bad(answer) };
+    banner(subject, &format!("{inked}  {}: {what}", safe(subject.label())), ink, || {
+        format!("is {}: {what}", answer.to_lowercase())
+    })
+}
+
+/// The first line, or, where the text is another one, that it is, with what the image alone comes to.
+fn banner(subject: &Subject, first: &str, ink: Ink, alone: impl Fn() -> String) -> String {
+    let doubts = subject.report().map_or(&[][..], |report| report.doubts());
+    let doubts: String = doubts.iter().map(|doubt| format!("in doubt: {doubt}\n")).collect();
     let Some(other) = notice::other_text(subject) else {
-        let answer = if report.accepted() { ink.good(answer) } else { ink.bad(answer) };
-        let not_shown = notice::not_shown(subject).map_or(String::new(), line);
-        return format!("{answer}  {label}: {what}\n{doubts}{not_shown}\n");
+        let not_shown = notice::not_shown(subject).map_or(String::new(), |text| line(&text));
+        return format!("{first}\n{doubts}{not_shown}\n");
     };
     format!(
-        "{}  {label}\n\n{}{}\n{}{doubts}\n",
+        "{}  {}\n\n{}{}\n{}{doubts}\n",
         ink.open(words::OTHER_TEXT),
-        line(other.says),
+        safe(subject.label()),
+        line(&other.says),
         mend(notice::OTHER_TEXT_MEND, ink),
-        line(format!("The image alone is {}: {what}. {}", answer.to_lowercase(), other.unsaid)),
+        line(&format!("The image alone {}. {}", alone(), other.unsaid)),
     )
+}
+
+/// Prose from the first column on.
+fn line(text: &str) -> String {
+    wrapped(text, 0, 0) + "\n"
 }
 
 fn answer(report: &Report, count: usize) -> (&'static str, String) {
@@ -142,12 +153,12 @@ impl Placed<'_, '_> {
     }
 }
 
-/// The place of a fault and its related places.
-fn placed<'f, 's>(fault: &'f Fault, source: Option<&'s Source<'s>>) -> Vec<Placed<'f, 's>> {
+/// The place of a fault, or of a lot, and the other places.
+fn placed<'f, 's>(here: &'f Mark, others: &'f [Mark], source: Option<&'s Source<'s>>) -> Vec<Placed<'f, 's>> {
     let excerpt = |mark: &Mark| source.and_then(|s| Some(Excerpt::of(s, s.place(mark.span)?)));
     let one = |mark: &'f Mark, sign| Placed { mark, sign, excerpt: excerpt(mark) };
-    let others = fault.others.iter().map(|mark| one(mark, '-'));
-    std::iter::once(one(&fault.here, '^')).chain(others).collect()
+    let others = others.iter().map(|mark| one(mark, '-'));
+    std::iter::once(one(here, '^')).chain(others).collect()
 }
 
 /// What the places of all faults have in common.
@@ -160,7 +171,26 @@ struct Page<'a> {
     ink: Ink,
 }
 
-impl Page<'_> {
+impl<'a> Page<'a> {
+    fn of<'p>(subject: &Subject<'a>, placed: impl Iterator<Item = &'p Placed<'p, 'p>>, ink: Ink) -> Page<'a> {
+        let lines = placed.filter_map(|place| place.excerpt.as_ref().map(|excerpt| excerpt.line));
+        let width = lines.max().unwrap_or(0).to_string().len();
+        let tree = subject.report().and_then(|report| report.tree());
+        Page { label: safe(subject.label()), tree, source: subject.source().is_some(), width, ink }
+    }
+
+    /// A fault: its sentence, its places, how to mend it.
+    fn fault(&self, fault: &Fault, placed: &[Placed]) -> String {
+        let head = self.ink.bad(&format!("[{}]", fault.code));
+        let said = headed(&head, &fault.code.to_string(), &fault.sentence);
+        said + &self.all(placed) + &mend(&fault.mend, self.ink)
+    }
+
+    /// Places one after the other, those on one line under it together.
+    fn all(&self, placed: &[Placed]) -> String {
+        placed.chunk_by(Placed::on_one_line).map(|places| self.places(places)).collect()
+    }
+
     /// Places on one line of the source, or one place that is not in it: `file:line:column` of each, then
     /// the line, then what is marked in it.
     fn places(&self, places: &[Placed]) -> String {

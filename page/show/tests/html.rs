@@ -104,7 +104,10 @@ fn marks_and_cards_are_bound() {
     for part in ["What it means", "Why it matters", "How to mend it", "Where"] {
         assert_eq!(html.matches(&format!("<dt>{part}</dt>")).count(), 3, "{part}");
     }
-    assert_eq!(html.matches("<dt>Related place</dt>").count(), 1);
+    assert_eq!(html.matches("<dt>Every use of it</dt>").count(), 1);
+    assert_eq!(html.matches("<dt>Related place</dt>").count(), 0);
+    let twice = shown_source(show::html, "contract C { state { x: u8; x: u8; } }");
+    assert_eq!(twice.matches("<dt>Related place</dt>").count(), 1);
 }
 
 /// Cards stand under their entry, entries in the contract's order.
@@ -126,7 +129,7 @@ fn related_places(source: &str) -> Vec<(String, String)> {
     let html = shown_source(show::html, source);
     sound(&html);
     let card = html.split("<article").find(|card| card.contains("(code 62)")).expect("a card for 62");
-    let places = between(card, "<dt>Related place</dt><dd>", "</dd>");
+    let places = between(card, "<dt>Every use of it</dt><dd>", "</dd>");
     let place = |html: &str| {
         let (said, line) =
             html.split_once("</a>").and_then(|(_, rest)| rest.split_once("</p>")).expect("both");
@@ -146,7 +149,7 @@ fn related_place(label: &str, before: &str, marked: &str, after: &str) -> (Strin
 fn burned_and_sent() {
     let expected = [
         related_place("this clause is its first use", "burns ", "Morphine", ""),
-        related_place("its second use", "send(to, ", "lot", ");"),
+        related_place("its second use, taken by the call send", "send(to, ", "lot", ");"),
     ];
     assert_eq!(related_places(BURNED_AND_SENT), expected);
 }

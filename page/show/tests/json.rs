@@ -41,7 +41,7 @@ fn a_faulty_contract() {
     for offence in json.at("offences").list() {
         assert_eq!(
             keys(offence),
-            ["code", "entry", "mend", "name", "pass", "place", "related", "sentence", "title"]
+            ["code", "entry", "mend", "name", "pass", "place", "reasons", "related", "sentence", "title"]
         );
         assert_eq!(keys(offence.at("place")), ["label", "node", "region", "span"]);
     }
@@ -70,7 +70,7 @@ fn burned_and_sent() {
     assert_eq!(offence.at("code").number(), 62);
     let places: Vec<_> = offence.at("related").list().iter().map(|place| place_of(source, place)).collect();
     let expected = [
-        ("lot", line_of(source, "send(to, lot)"), "its second use", true),
+        ("lot", line_of(source, "send(to, lot)"), "its second use, taken by the call `send`", true),
         ("Morphine", line_of(source, "burns Morphine"), "this clause is its first use", false),
     ];
     assert_eq!(places, expected);

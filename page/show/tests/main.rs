@@ -17,3 +17,5 @@ mod readme;
 mod sarif;
 mod sentences;
 mod text;
+mod uses;
+mod why;

@@ -24,6 +24,9 @@ fn at<'a>(text: &'a str, mark: &'a Mark) -> (&'a str, &'a str, bool) {
 type Row = (u16, &'static str, &'static [(&'static str, &'static str, bool)]);
 
 const FIRST_BY_CLAUSE: &str = "this clause is its first use";
+const FIRST: &str = "used here, taken by the call `send`";
+const SECOND: &str = "its second use, taken by the call `send`";
+const MORE: &str = "used once more here, taken by the call `send`";
 const FOR_EACH: &str = "this clause is a use for each `lot` that it burns";
 
 const ROWS: &[Row] = &[
@@ -52,31 +55,27 @@ const ROWS: &[Row] = &[
     (
         62,
         "contract C { asset M; entry e(lot: Q_Asset<M>, to: Q_Address) burns M {\nsend(to,\nlot); } }",
-        &[("M {", FIRST_BY_CLAUSE, false), ("lot)", "its second use", true)],
+        &[("M {", FIRST_BY_CLAUSE, false), ("lot)", SECOND, true)],
     ),
     (
         62,
         "contract C { asset M; entry e(lot: Q_Asset<M>) burns M { send(1, lot); send(2, lot, 2); f = lot; } }",
         &[
             ("M { send(1, lot)", FIRST_BY_CLAUSE, false),
-            ("lot)", "its second use", true),
-            ("lot, 2)", "used once more here", false),
-            ("lot", "used once more here", false),
+            ("lot)", SECOND, true),
+            ("lot, 2)", MORE, false),
+            ("lot", "used once more here, stored in `f`", false),
         ],
     ),
     (
         62,
         "contract C { entry e(lot: Q_Asset<M>) { send(1, lot); send(2, lot, 2); } }",
-        &[("lot)", "used here", false), ("lot, 2)", "its second use", true)],
+        &[("lot)", FIRST, false), ("lot, 2)", SECOND, true)],
     ),
     (
         62,
         "contract C { entry e(lot: Q_Asset<M>) { send(1, lot); send(2, lot, 2); send(3, checked(lot)); } }",
-        &[
-            ("lot)", "used here", false),
-            ("lot, 2)", "its second use", true),
-            ("lot))", "used once more here", false),
-        ],
+        &[("lot)", FIRST, false), ("lot, 2)", SECOND, true), ("lot))", MORE, false)],
     ),
     // one clause, two parameters of one name: it marks the first of them twice, and is shown once
     (
@@ -94,18 +93,18 @@ const ROWS: &[Row] = &[
     (
         62,
         "contract C { asset M; entry e(lot: Q_Asset<M>) burns M burns M { send(1, lot); } }",
-        &[("M burns M { send(1, lot)", FIRST_BY_CLAUSE, false), ("lot)", "its second use", true)],
+        &[("M burns M { send(1, lot)", FIRST_BY_CLAUSE, false), ("lot)", SECOND, true)],
     ),
     // the mark is on the first of two rows, and the uses are on the last
     (
         62,
         "contract C { asset M; entry e(lot: Q_Asset<M>, lot: Q_Asset<N>) burns M { send(1, lot); f = lot; } }",
-        &[("lot)", "used here", false), ("lot", "its second use", true)],
+        &[("lot)", FIRST, false), ("lot", "its second use, stored in `f`", true)],
     ),
     (
         62,
         "contract C { asset M; entry e(lot: Q_Asset<M>) burns M { let lot = mint(1); send(1, lot); f = lot; } }",
-        &[("lot)", "used here", false), ("lot", "its second use", true)],
+        &[("lot)", FIRST, false), ("lot", "its second use, stored in `f`", true)],
     ),
     (30, "contract C { entry e() { emit E(); } }", &[]),
 ];

@@ -326,7 +326,12 @@ fn sources_and_spans_of_all_sorts() {
 fn related_places_are_linked() {
     let log = admitted(&shown_ward(show::sarif));
     let message = log.at("runs/0/results/2/message/text").text();
-    assert!(message.ends_with(" See [its second use](1), [used here](2)."), "{message}");
+    assert!(
+        message.ends_with(
+            " See [its second use, taken by the call `send`](1), [used here, taken by the call `send`](2)."
+        ),
+        "{message}"
+    );
     // what stands in a link is what its place is called
     for source in words::codes().iter().map(|entry| &entry.before) {
         let log = admitted(&shown_source(show::sarif, source));
@@ -346,7 +351,7 @@ fn burned_and_sent() {
     let result = log.at("runs/0/results/0");
     let message = result.at("message/text").text();
     assert!(message.contains("since its `burns` clause is a use too"), "{message}");
-    let see = " See [its second use](1), [this clause is its first use](2).";
+    let see = " See [its second use, taken by the call `send`](1), [this clause is its first use](2).";
     assert!(message.ends_with(see), "{message}");
     let line = |place: &Json| place.at("physicalLocation/region/startLine").number();
     let places = result.at("relatedLocations").list();

@@ -62,10 +62,10 @@ REFUSED  ward.quanta: 2 faults
     |                 ^^^ this lot
   ward.quanta:8:18
   8 |         send(to, lot);
-    |                  --- used here
+    |                  --- used here, taken by the call `send`
   ward.quanta:9:21
   9 |         stock.merge(lot);
-    |                     --- its second use
+    |                     --- its second use, taken by the call `stock.merge`
   mend: keep one use; to divide a lot use `split`
 
 2 faults: access 1, lots 1
@@ -84,8 +84,8 @@ REFUSED  ward.quanta: 2 faults
 
 [62] the lot `lot` is used more than once: stock would count double
   in entry `issue`, node 18, bytes 110 to 113: this lot
-  in entry `issue`, node 38, bytes 222 to 225: used here
-  in entry `issue`, node 44, bytes 248 to 251: its second use
+  in entry `issue`, node 38, bytes 222 to 225: used here, taken by the call `send`
+  in entry `issue`, node 44, bytes 248 to 251: its second use, taken by the call `stock.merge`
   mend: keep one use; to divide a lot use `split`
 
 2 faults: access 1, lots 1
@@ -109,7 +109,7 @@ REFUSED  ward.quanta: 1 fault
     |               -------- this clause is its first use
   ward.quanta:6:18
   6 |         send(to, lot);
-    |                  --- its second use
+    |                  --- its second use, taken by the call `send`
   mend: keep one use of `lot`: the clause `burns Morphine`, or one other without the clause; to
         divide a lot use `split`
 
@@ -118,7 +118,7 @@ REFUSED  ward.quanta: 1 fault
     assert_eq!(of(BURNED_AND_SENT), expected.to_string() + &words::last_lines(Some(62)));
     let related = common::related_of_62(BURNED_AND_SENT).expect("a related place");
     let place = format!(
-        "node {}, bytes {} to {}: its second use",
+        "node {}, bytes {} to {}: its second use, taken by the call `send`",
         related.node, related.span.start, related.span.end
     );
     let without_source = shown(&example::image(BURNED_AND_SENT), None);

@@ -2,9 +2,10 @@
 
 use super::{Advice, Asked};
 use crate::edit::{Way, item, remove, replace, statement};
-use crate::facts::Row;
+use crate::lots::{only_burned_by, uses};
 use crate::near::nearest;
 use form::kind;
+use isonkaypu::Lot;
 use words::Case;
 
 impl Asked<'_> {
@@ -26,7 +27,7 @@ impl Asked<'_> {
 
     /// Whether an Ident names a lot of the entry.
     pub fn is_a_lot(&self, ident: usize) -> bool {
-        self.facts.rows(self.entry()).iter().any(|row| self.facts.is(ident, &row.name))
+        self.facts.lots(self.entry()).any(|lot| self.facts.is(ident, name(lot)))
     }
 
     /// 37, 38, 39: an asset that is not known, or not declared.
@@ -70,7 +71,8 @@ impl Asked<'_> {
         let touched: Vec<usize> = lots.filter(either).collect();
         let unused = |asset: &usize| {
             let param = facts.tree.above(*asset).find(|p| facts.tree.kind(*p) == kind::PARAM).unwrap_or(0);
-            facts.uses_of(entry, param + 1).is_empty() && facts.is(*asset, near)
+            let mut lots = facts.lots(entry).filter(|lot| lot.place.node == param + 1);
+            lots.all(|lot| uses(&lot.reasons).next().is_none()) && facts.is(*asset, near)
         };
         touched.iter().all(unused)
     }
@@ -79,19 +81,19 @@ impl Asked<'_> {
     fn without_the_clause(&self, clause: usize) -> Way {
         let (facts, entry) = (self.facts, self.entry());
         let burns = facts.tree.kind(clause) == kind::BURNS;
-        let left = |row: &Row| burns && facts.only_burned_by(clause + 1, entry, row.place);
-        let rows = facts.rows(entry).into_iter().filter(left);
-        std::iter::once(remove(clause)).chain(rows.flat_map(|row| self.sent_lot(entry, &row))).collect()
+        let left = |lot: &&Lot| burns && only_burned_by(clause + 1, &lot.reasons);
+        let lots = facts.lots(entry).filter(left);
+        std::iter::once(remove(clause)).chain(lots.flat_map(|lot| self.sent_lot(entry, lot))).collect()
     }
 
     /// The lot sent to somebody; one that is called `deployer`, under another name.
-    fn sent_lot(&self, entry: usize, row: &Row) -> Way {
+    fn sent_lot(&self, entry: usize, lot: &Lot) -> Way {
         let to = self.addressee(entry);
-        if row.name != "deployer" {
-            return vec![statement(entry, format!("send({to}, {});", row.name))];
+        if name(lot) != "deployer" {
+            return vec![statement(entry, format!("send({to}, {});", name(lot)))];
         }
-        let fresh = self.facts.fresh(&row.name);
-        vec![replace(row.place, &fresh), statement(entry, format!("send({to}, {fresh});"))]
+        let fresh = self.facts.fresh(name(lot));
+        vec![replace(lot.place.node, &fresh), statement(entry, format!("send({to}, {fresh});"))]
     }
 
     /// Somebody in this entry that a lot can be sent to: an address whose name nothing else has here.
@@ -107,4 +109,9 @@ impl Asked<'_> {
         });
         found.map_or("caller".to_string(), |(declared, _)| facts.text(declared + 1))
     }
+}
+
+/// What a lot is called: every lot has a name.
+pub fn name(lot: &Lot) -> &str {
+    lot.name.as_deref().unwrap_or_default()
 }

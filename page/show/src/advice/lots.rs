@@ -1,7 +1,9 @@
 //! Lots: 60, 61 and 62.
 
+use super::assets::name;
 use super::{Advice, Asked};
 use crate::edit::{Edit, Way, remove, replace, statement};
+use crate::lots::{clauses, only_burned_by, uses};
 use form::kind;
 use words::Case;
 
@@ -11,11 +13,9 @@ impl Asked<'_> {
         let (facts, entry, one) = (self.facts, self.entry(), self.node());
         let tree = facts.tree;
         let lot = facts.text(facts.peeled(one + 2));
-        let uses = facts.uses(entry);
-        let of = |name: &str| uses.iter().copied().filter(|u| facts.is(*u, name)).collect::<Vec<_>>();
-        let second = of(self.name());
-        let place = facts.rows(entry).into_iter().rfind(|row| row.name == lot).map_or(0, |row| row.place);
-        let used = !of(&lot).is_empty() || !facts.marks_of(entry, place).is_empty();
+        let uses = facts.uses(entry).into_iter();
+        let second: Vec<usize> = uses.filter(|one| facts.is(*one, self.name())).collect();
+        let used = facts.lots(entry).rfind(|one| name(one) == lot).is_some_and(|one| !one.reasons.is_empty());
         if used && !second.is_empty() {
             let out = self.statements_out(&second);
             let way = out.map(|out| std::iter::once(remove(one)).chain(out).collect());
@@ -115,9 +115,10 @@ impl Asked<'_> {
         if facts.namesakes(entry, self.name()) > 1 {
             return Advice::new(Case::First, vec![]);
         }
-        let uses = facts.uses_of(entry, self.node());
-        // with one thing of its name there is one mark at most
-        let Some(clause) = facts.marks_of(entry, self.node()).first().copied() else {
+        let reasons = self.offence.reasons.as_deref().unwrap_or_default();
+        let uses: Vec<usize> = uses(reasons).collect();
+        // with one thing of its name there is one clause at most
+        let Some(clause) = clauses(reasons).next() else {
             return Advice::new(Case::Plain, self.first_use_alone(&uses).into_iter().collect());
         };
         let asset = facts.text(clause);
@@ -142,8 +143,8 @@ impl Asked<'_> {
     /// Another lot of the entry that needs the Burns clause with this Name: nothing else uses it.
     fn needing(&self, clause: usize) -> Option<String> {
         let (facts, entry) = (self.facts, self.entry());
-        let mut others = facts.rows(entry).into_iter().filter(|row| row.place != self.node());
-        others.find(|row| facts.only_burned_by(clause, entry, row.place)).map(|row| row.name)
+        let mut others = facts.lots(entry).filter(|lot| lot.place.node != self.node());
+        others.find(|lot| only_burned_by(clause, &lot.reasons)).map(|lot| name(lot).to_string())
     }
 
     /// Every Burns clause of this asset out.

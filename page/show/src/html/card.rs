@@ -5,7 +5,7 @@ use super::prose;
 use super::view::{Group, Item, View};
 use crate::fault::counted;
 use crate::region::Region;
-use crate::{Mark, about, escape};
+use crate::{Fault, Mark, about, escape};
 use words::Entry;
 
 /// All cards, by entry; nothing where there is no fault.
@@ -73,7 +73,7 @@ fn card(view: &View, item: &Item) -> String {
          <dl>{}{}{}{}{}</dl>\n{}<p class=\"code-number\">{}: {} (code {})</p></article>\n",
         prose::sentence(&fault.sentence),
         row("Where", &place(view, &format!("here-{number}"), &fault.here, &item.here, "here")),
-        row("Related place", &others(view, item)),
+        row(others_title(fault), &others(view, item)),
         part("What it means", said(|words| &words.means)),
         part("Why it matters", said(|words| &words.matters)),
         row("How to mend it", &mend(&fault.mend, said(|words| &words.how))),
@@ -91,6 +91,10 @@ fn mend(line: &str, how: &str) -> String {
 
 fn row(title: &str, html: &str) -> String {
     if html.is_empty() { String::new() } else { format!("<div><dt>{title}</dt><dd>{html}</dd></div>") }
+}
+
+fn others_title(fault: &Fault) -> &'static str {
+    if fault.reasons.is_some() { "Every use of it" } else { "Related place" }
 }
 
 /// The related places of a fault, from the first to the last.
