@@ -40,10 +40,18 @@ pub struct Check {
     pub root: Option<PathBuf>,
 }
 
+/// Which lot is asked about: the image is the only one of `check`.
+#[derive(Debug, PartialEq, Eq)]
+pub struct Why {
+    pub check: Check,
+    pub place: usize,
+}
+
 /// What is asked for.
 #[derive(Debug, PartialEq, Eq)]
 pub enum Command {
     Check(Check),
+    Why(Why),
     Show { image: PathBuf },
     Explain { what: Vec<String> },
     HelpPage,
@@ -67,7 +75,8 @@ fn command(given: &[OsString], first: &OsStr, rest: &[OsString]) -> Result<Comma
         return Ok(Command::Help);
     }
     match (first.to_string_lossy().as_ref(), rest) {
-        ("check", rest) => check(rest).map(Command::Check),
+        (CHECK, rest) => asked(CHECK, rest)?.check().map(Command::Check),
+        (WHY, rest) => asked(WHY, rest)?.why().map(Command::Why),
         ("show", [image]) if !is_option(image) => Ok(Command::Show { image: image.into() }),
         ("show", _) => Err("`show` takes one image".to_string()),
         ("explain", what) => Ok(Command::Explain { what: what.iter().map(|w| word(w)).collect() }),
@@ -79,6 +88,10 @@ fn command(given: &[OsString], first: &OsStr, rest: &[OsString]) -> Result<Comma
         }
     }
 }
+
+/// The commands that take options.
+const CHECK: &str = "check";
+const WHY: &str = "why";
 
 fn word(given: &OsStr) -> String {
     given.to_string_lossy().into_owned()
@@ -99,25 +112,33 @@ fn split(given: &OsStr) -> (String, Option<OsString>) {
     }
 }
 
-fn check(given: &[OsString]) -> Result<Check, String> {
-    let mut asked = Asked::default();
+/// What stands behind a command, taken apart.
+fn asked(command: &'static str, given: &[OsString]) -> Result<Asked, String> {
+    let mut asked = Asked { command, ..Asked::default() };
     let mut rest = given.iter();
     while let Some(next) = rest.next() {
         if next == "--" {
             asked.images.extend(rest.by_ref().map(PathBuf::from));
-        } else if is_option(next) {
+        } else if is_option(next) && !(command == WHY && is_below_zero(next)) {
             let (name, value) = split(next);
             asked.option(&name, || value.or_else(|| rest.next().cloned()))?;
         } else {
             asked.images.push(next.into());
         }
     }
-    asked.check()
+    Ok(asked)
+}
+
+/// `-5` is no option of `why`, but a place that cannot be.
+fn is_below_zero(given: &OsStr) -> bool {
+    given.as_encoded_bytes().strip_prefix(b"-").is_some_and(|digits| digits.iter().all(u8::is_ascii_digit))
 }
 
 /// The options as far as they are read.
 #[derive(Default)]
 struct Asked {
+    command: &'static str,
+    /// Of `why` the image and the place.
     images: Vec<PathBuf>,
     source: Option<PathBuf>,
     sources: Option<PathBuf>,
@@ -134,18 +155,19 @@ impl Asked {
         };
         match name {
             "--source" => path(&mut self.source, value()),
+            "--color" => set(&mut self.color, name, value().map(|v| color(&v)).transpose()?),
+            _ if self.command != CHECK => Err(format!("`{name}` is no option of `{}`", self.command)),
             "--sources" => path(&mut self.sources, value()),
             "--output" | "-o" => path(&mut self.output, value()),
             "--root" => path(&mut self.root, value()),
             "--format" => set(&mut self.format, name, value().map(|v| format(&v)).transpose()?),
-            "--color" => set(&mut self.color, name, value().map(|v| color(&v)).transpose()?),
-            _ => Err(format!("`{name}` is no option of `check`")),
+            _ => Err(format!("`{name}` is no option of `{}`", self.command)),
         }
     }
 
     /// The options together, where they go together.
     fn check(self) -> Result<Check, String> {
-        let Asked { images, source, sources, format, output, color, root } = self;
+        let Asked { command: _, images, source, sources, format, output, color, root } = self;
         let format = format.unwrap_or_default();
         match images.len() {
             0 => return Err("`check` takes an image".to_string()),
@@ -163,8 +185,36 @@ impl Asked {
         }
         Ok(Check { images, source, sources, format, output, color: color.unwrap_or_default(), root })
     }
+
+    /// The lot that is asked about: an image and a place.
+    fn why(mut self) -> Result<Why, String> {
+        let given = std::mem::take(&mut self.images);
+        let [image, place] = &given[..] else {
+            return Err("`why` takes an image and the place of a lot".to_string());
+        };
+        let place = self::place(place.as_os_str())?;
+        let check = Asked { images: vec![image.clone()], ..self }.check()?;
+        Ok(Why { check, place })
+    }
 }
 
+/// How much of what is no place is said again, in characters.
+const SAID_AGAIN: usize = 40;
+
+/// A place as a report prints it: digits, and no more than a computer counts with.
+fn place(given: &OsStr) -> Result<usize, String> {
+    let text = word(given);
+    let is_number = !text.is_empty() && text.bytes().all(|byte| byte.is_ascii_digit());
+    let more = if text.chars().count() > SAID_AGAIN { "…" } else { "" };
+    let again: String = text.chars().take(SAID_AGAIN).collect();
+    match text.parse() {
+        Ok(place) if is_number => Ok(place),
+        _ if is_number => Err(format!("`{again}{more}` is larger than any place; {A_PLACE}")),
+        _ => Err(format!("`{again}{more}` is no place; {A_PLACE}")),
+    }
+}
+
+const A_PLACE: &str = "a place is the number of a node, as a report has it for a 61 or 62";
 const ONE_SOURCE: &str = "`--source` is the text of one image: call `check` once for each image, or give the \
     folder of the texts with `--sources`";
 const ONE_PAGE: &str = "a page is for one image: call `check` once for each";

@@ -5,6 +5,7 @@ use words::statuses;
 pub const USAGE: &str = "\
 usage: isonkaypu check IMAGE... [--source FILE | --sources DIR] [--format text|numbers|json|sarif|html]
                  [--output FILE] [--color always|never|auto] [--root DIR]
+       isonkaypu why IMAGE PLACE [--source FILE] [--color always|never|auto]
        isonkaypu show IMAGE
        isonkaypu explain [NUMBER | image NUMBER | WORD]
        isonkaypu help-page | --version | --help";
@@ -33,6 +34,9 @@ check    checks images and writes the report; `-` is standard input
                            terminal, unless NO_COLOR is set
            --root DIR      the folder that the paths of a sarif log begin at; else they are as they were given
          Of several images the exit status is the highest. An option's value may also stand behind `=`
+why      says of one lot which clauses and which statements use it, each in its line. PLACE is the lot's node, the
+         second number in the line of a 61 or 62; for any other the lots of the contract are named. The exit
+         status is 0 where the lot has exactly one use, and 1 where it has none or more
 show     writes the parts of an image as a tree: number, kind, name, span
 explain  says what a number or a word means and how to mend it; alone, lists what there is
 help-page

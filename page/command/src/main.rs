@@ -1,5 +1,5 @@
-//! The program `isonkaypu`: checks images and shows the reports, shows an image's tree, explains the
-//! numbers of a report.
+//! The program `isonkaypu`: checks images and shows the reports, says why a lot is refused, shows an image's
+//! tree, explains the numbers of a report.
 
 mod arguments;
 mod files;

@@ -1,9 +1,9 @@
 //! Doing what the command line asks for.
 
-use crate::arguments::{Check, Color, Command, Format};
+use crate::arguments::{Check, Color, Command, Format, Why};
 use crate::summary::summary;
 use crate::{ACCEPTED, Answer, NO_IMAGE, OFFENCES, TROUBLE, files, help};
-use isonkaypu::{Doubt, ImageRefusal, Report, check_image};
+use isonkaypu::{Doubt, ImageRefusal, Lot, Report, WhyError, check_image};
 use show::Subject;
 use std::io::IsTerminal;
 use std::path::{Component, Path, PathBuf};
@@ -11,6 +11,7 @@ use std::path::{Component, Path, PathBuf};
 pub fn run(command: Command) -> Result<Answer, String> {
     match command {
         Command::Check(check) => checked(&check),
+        Command::Why(why) => asked_why(&why),
         Command::Show { image } => shown(image),
         Command::Explain { what } => explain(&what).map(told),
         Command::HelpPage => Ok(told(words::help_page())),
@@ -53,8 +54,8 @@ impl Read {
     }
 }
 
-/// Checks every image. Nothing is shown where one of the files cannot be read.
-fn checked(check: &Check) -> Result<Answer, String> {
+/// The images with their sources, and the files that were read. Nothing is shown where one cannot be.
+fn read(check: &Check) -> Result<(Vec<Read>, Vec<PathBuf>), String> {
     let sources: Vec<Option<PathBuf>> = check.images.iter().map(|image| source_of(image, check)).collect();
     let inputs: Vec<PathBuf> = check.images.iter().chain(sources.iter().flatten()).cloned().collect();
     if inputs.iter().filter(|path| files::is_standard(path)).count() > 1 {
@@ -64,7 +65,12 @@ fn checked(check: &Check) -> Result<Answer, String> {
     }
     let pairs = check.images.iter().zip(&sources);
     let read = pairs.map(|(image, source)| Read::of(image, source.as_deref(), check));
-    let read = read.collect::<Result<Vec<_>, _>>()?;
+    Ok((read.collect::<Result<Vec<_>, _>>()?, inputs))
+}
+
+/// Checks every image.
+fn checked(check: &Check) -> Result<Answer, String> {
+    let (read, inputs) = read(check)?;
     let subjects: Vec<Subject> = read.iter().map(Read::subject).collect();
     let statuses = subjects.iter().map(status).collect::<Result<Vec<_>, _>>()?;
     let text = formed(check, &subjects, &statuses);
@@ -72,6 +78,50 @@ fn checked(check: &Check) -> Result<Answer, String> {
     let says_it = check.format == Format::Text && output.is_none();
     let remarks = if says_it { Vec::new() } else { remarks(&subjects) };
     Ok(Answer { text, output, inputs, remarks, status: statuses.into_iter().max().unwrap_or(TROUBLE) })
+}
+
+/// Why a lot is refused, or is not.
+fn asked_why(why: &Why) -> Result<Answer, String> {
+    let Why { check, place } = why;
+    let (read, inputs) = read(check)?;
+    let [read] = &read[..] else {
+        return Err("`why` is asked of one image".to_string());
+    };
+    let subject = read.subject();
+    let status = status(&subject)?;
+    let Some(report) = subject.report() else {
+        return Ok(Answer { status, inputs, ..told(show::text(&subject)) });
+    };
+    let lot = report.why(*place).map_err(|error| no_answer(error, read))?;
+    let text = if coloured(check) { show::why_in_colour } else { show::why };
+    let status = match lot.reasons.len() {
+        // on another text than the image's there is no answer
+        _ if status == TROUBLE => TROUBLE,
+        1 => ACCEPTED,
+        _ => OFFENCES,
+    };
+    Ok(Answer { status, inputs, ..told(text(&subject, &lot)) })
+}
+
+/// How many lots are named to somebody who asked about none.
+const NAMED: usize = 20;
+
+/// Why there is no answer about a lot; where none stands at the place, which places there are.
+fn no_answer(error: WhyError, read: &Read) -> String {
+    let WhyError::NoLot(_) = error else {
+        return error.to_string();
+    };
+    let lots = isonkaypu::lots(&read.bytes).unwrap_or_default();
+    let named = |lot: &Lot| format!("{} (`{}`)", lot.place.node, lot.name.as_deref().unwrap_or_default());
+    let places: Vec<String> = lots.iter().take(NAMED).map(named).collect();
+    let more = match lots.len().saturating_sub(NAMED) {
+        0 => String::new(),
+        more => format!(" and {more} more"),
+    };
+    match lots.is_empty() {
+        true => format!("{error} of {}, which has no lot", read.label),
+        false => format!("{error} of {}; its lots stand at {}{more}", read.label, places.join(", ")),
+    }
 }
 
 /// The text that belongs to an image: the one that was given, or the one of its name in the folder.

@@ -3,3 +3,4 @@
 mod common;
 mod program;
 mod report;
+mod why;

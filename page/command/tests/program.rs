@@ -1,41 +1,14 @@
 //! The program itself, run as people and scripts run it: statuses, outputs, odd inputs.
 
-use crate::common::{ACCEPTED, FAULTY as WARD, NO_IMAGE, OFFENCES, Ran, TROUBLE, program, ran};
+use crate::common::{
+    ACCEPTED, FAULTY as WARD, NO_IMAGE, OFFENCES, file, is_trouble, path, program, ran, run, sample,
+    with_input,
+};
 use std::ffi::OsStr;
 use std::fs::{self, File};
 use std::io::Write;
-use std::path::{Path, PathBuf};
+use std::path::Path;
 use std::process::Stdio;
-
-fn run<T: AsRef<OsStr>>(arguments: &[T]) -> Ran {
-    ran(program().args(arguments).stdin(Stdio::null()).output().expect("the program runs"))
-}
-
-fn with_input(arguments: &[&str], input: Stdio) -> Ran {
-    ran(program().args(arguments).stdin(input).output().expect("the program runs"))
-}
-
-fn sample(name: &str) -> String {
-    format!("{}/../../samples/{name}", env!("CARGO_MANIFEST_DIR"))
-}
-
-/// A file of these bytes, for one test.
-fn file(name: &str, bytes: &[u8]) -> PathBuf {
-    let path = Path::new(env!("CARGO_TARGET_TMPDIR")).join(name);
-    fs::write(&path, bytes).expect("a file for the test");
-    path
-}
-
-fn path(path: &Path) -> &str {
-    path.to_str().expect("a plain path")
-}
-
-/// Ends with 3, says why on standard error, and nothing on standard output.
-fn is_trouble(ran: &Ran, why: &str) {
-    assert_eq!((ran.status, ran.out.as_str()), (Some(TROUBLE), ""), "{}", ran.err);
-    assert!(ran.err.starts_with("isonkaypu: ") && ran.err.contains(why), "{}", ran.err);
-    assert!(!ran.err.contains("panicked"), "{}", ran.err);
-}
 
 #[test]
 fn numbers_of_document_01() {
@@ -232,7 +205,7 @@ fn explain() {
     begins(&["explain", "burns"], "burns\n  A clause");
     begins(&["explain", "linear"], "The check of lots\n");
     begins(&["explain", "not-checked"], "Checked\n");
-    begins(&["explain"], "Refusals of an image\n");
+    begins(&["explain"], "Refusals\n");
     for unknown in [["explain", "63"], ["explain", "5"], ["explain", "image 10"], ["explain", "box"]] {
         is_trouble(&run(&unknown), "nothing to explain");
     }
