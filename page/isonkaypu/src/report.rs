@@ -312,6 +312,21 @@ mod tests {
         assert_eq!(doubts(&unused, &answers), [Doubt::Reasons(61, 5)]);
     }
 
+    /// What is said of a lot is held against the report: an answer that does not go with the list is none.
+    #[test]
+    fn a_lot_goes_with_the_list() {
+        let (image, answers) = used_twice();
+        let report = Report::of(&image, &answers);
+        assert_eq!(report.why(5).map(|lot| lot.reasons.len()), Ok(3));
+        assert_eq!(report.why(4), Err(WhyError::NoLot(4)));
+        // a list without the 62, and one whose reasons were in doubt
+        assert_eq!(Report::of(&image, &accepting()).why(5), Err(WhyError::Doubted));
+        let doubted = Report::of(&image, &Answers { why: |_, _| said(13, &[]), ..answers });
+        assert_eq!(doubted.why(5), Err(WhyError::Doubted));
+        let once = example::image("contract c { entry e(x: Q_Asset) { send(1, x); } }");
+        assert_eq!(Report::of(&once, &accepting()).why(5).map(|lot| lot.reasons.len()), Ok(1));
+    }
+
     #[test]
     fn bytes_without_a_tree_are_not_accepted_on_any_record() {
         let listed = Answers { count: 1, words: vec![61, 5, 0], ..accepting() };

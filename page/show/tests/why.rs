@@ -1,6 +1,7 @@
 //! The answer why one lot is refused, as people read it.
 
 use crate::common::contracts::{BURNED_AND_SENT, BURNED_TWICE};
+use crate::common::shown_source;
 use isonkaypu::{Lot, check_image};
 use show::Subject;
 
@@ -50,31 +51,19 @@ Read more: `isonkaypu explain use`
     assert!(said.contains(in_a_statement), "{said}");
 }
 
-/// A lot with a fault: the report's own words and lines on it.
+/// A lot with a fault: between the first line and what the number means, the report's own words and lines on it.
 #[test]
 fn a_lot_with_a_fault() {
     let said = of(show::why, BURNED_AND_SENT, 0, Some(BURNED_AND_SENT));
+    let [first, fault, meaning] = said.split("\n\n").collect::<Vec<_>>()[..] else { panic!("{said}") };
+    assert_eq!(first, "2 USES  ward.quanta: the lot `lot` of entry `destroy`, node 7");
+    let report = shown_source(show::text, BURNED_AND_SENT);
+    assert!(fault.starts_with("[62] ") && report.contains(&format!("\n\n{fault}\n\n")), "{fault}");
     let expected = "\
-2 USES  ward.quanta: the lot `lot` of entry `destroy`, node 7
-
-[62] the lot `lot` is used more than once, since its `burns` clause is a use too: stock would count
-     double
-  ward.quanta:3:19
-  3 |     entry destroy(lot: Q_Asset<Morphine>, to: Q_Address)
-    |                   ^^^ this lot
-  ward.quanta:4:15
-  4 |         burns Morphine
-    |               -------- this clause is its first use
-  ward.quanta:6:18
-  6 |         send(to, lot);
-    |                  --- its second use, taken by the call `send`
-  mend: keep one use of `lot`: the clause `burns Morphine`, or one other without the clause; to
-        divide a lot use `split`
-
 A lot is used exactly once. This one has 2 uses (1 by `burns`), so the contract is refused.
 Read more: `isonkaypu explain 62`, `isonkaypu explain use`
 ";
-    assert_eq!(said, expected);
+    assert_eq!(meaning, expected);
     let without = BURNED_TWICE.replace("send(to, lot);", "");
     let unused = of(show::why, &without, 1, Some(&without));
     assert!(
