@@ -3,8 +3,9 @@
 //! not from the published Rust, so that the two can judge each other.
 //!
 //! `admission` holds refusals 1 to 8, `model` the three questions, `resolve`, `access` and
-//! `linear` the offences (`linear` also what consumes a counted occurrence), `report` the program's
-//! text; this file holds what the public functions answer.
+//! `linear` the offences (`linear` also what consumes a counted occurrence), `why` what makes a tracked
+//! asset unused or used more than once, `report` the program's text; this file holds what the public
+//! functions answer.
 
 pub mod admission;
 pub mod image;
@@ -17,6 +18,7 @@ mod record;
 mod report;
 mod resolve;
 mod signature;
+mod why;
 
 pub use admission::{admit, refusal};
 pub use form::kind;
@@ -24,6 +26,7 @@ pub use linear::{Occurrence, counted_occurrences};
 pub use model::Model;
 pub use record::Record;
 pub use report::report;
+pub use why::{Lot, Reason, lots, why};
 
 use tree::Tree;
 

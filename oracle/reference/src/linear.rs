@@ -1,17 +1,19 @@
 //! Document 01, "Linear, entry by entry": codes 60, 61 and 62. Document 02, request E5: what
-//! consumes a counted occurrence.
+//! consumes a counted occurrence. Why a row has its code is `why`'s matter, which takes the rows from
+//! here.
 
 use crate::kind::*;
 use crate::model::asset_inner;
 use crate::record::{Records, at, related};
 use crate::tree::Tree;
 
-/// A tracked asset: its name, the place of its record, and what counts as its use.
-struct Row<'a> {
+/// A tracked asset: its name, the place of its record, and what counts as its use: burn marks, each as
+/// the Name of the clause that gives it, and counted occurrences.
+pub struct Row<'a> {
     name: &'a [u8],
-    place: usize,
-    marks: usize,
-    occurrences: Vec<Occurrence>,
+    pub place: usize,
+    pub marks: Vec<usize>,
+    pub occurrences: Vec<Occurrence>,
 }
 
 /// Request E5, name the call, too: "The finding of a counted occurrence shall answer with both the
@@ -26,12 +28,17 @@ pub fn linear(tree: &Tree) -> Records {
     let mut out = Records::new();
     for entry in tree.entries() {
         aliases(tree, entry, &mut out);
-        let mut rows = tracked(tree, entry);
-        burn_marks(tree, entry, &mut rows);
-        count(tree, entry, &mut rows);
-        uses(&rows, &mut out);
+        uses(&rows(tree, entry), &mut out);
     }
     out
+}
+
+/// The tracked assets of an entry in order, with their marks and their occurrences.
+pub fn rows<'a>(tree: &Tree<'a>, entry: usize) -> Vec<Row<'a>> {
+    let mut rows = tracked(tree, entry);
+    burn_marks(tree, entry, &mut rows);
+    count(tree, entry, &mut rows);
+    rows
 }
 
 /// "Tracked, in order: `Q_Asset` parameters (place Name)"
@@ -58,7 +65,7 @@ fn tracked<'a>(tree: &Tree<'a>, entry: usize) -> Vec<Row<'a>> {
     let row = |declaration, place| Row {
         name: tree.name_text(declaration),
         place,
-        marks: 0,
+        marks: Vec::new(),
         occurrences: Vec::new(),
     };
     params.map(|p| row(p, tree.name(p))).chain(lets.map(|s| row(s, s))).collect()
@@ -85,17 +92,20 @@ fn aliases(tree: &Tree, entry: usize, out: &mut Records) {
 /// "Burn mark: for each parameter of type `Q_Asset` whose first argument is a type named in a
 /// Burns clause, one on the first tracked row of its name."
 fn burn_marks(tree: &Tree, entry: usize, rows: &mut [Row]) {
-    let clauses = tree.children_of(entry, |k| k == BURNS);
-    let burned: Vec<&[u8]> = clauses.iter().map(|c| tree.name_text(*c)).collect();
     for param in asset_parameters(tree, entry) {
-        let inner = asset_inner(tree, tree.type_of(param));
-        if inner.is_some_and(|name| burned.contains(&name)) {
-            let name = tree.name_text(param);
-            if let Some(row) = rows.iter_mut().find(|row| row.name == name) {
-                row.marks += 1;
-            }
+        let name = tree.name_text(param);
+        let row = rows.iter_mut().find(|row| row.name == name);
+        if let (Some(row), Some(clause)) = (row, burning_clause(tree, entry, param)) {
+            row.marks.push(clause);
         }
     }
+}
+
+/// Request E3: "the Name of the first Burns clause that gives the mark", where one does.
+fn burning_clause(tree: &Tree, entry: usize, param: usize) -> Option<usize> {
+    let inner = asset_inner(tree, tree.type_of(param))?;
+    let mut clauses = tree.children_of(entry, |k| k == BURNS).into_iter();
+    clauses.find(|c| tree.name_text(*c) == inner).map(|c| tree.name(c))
 }
 
 /// "Counted occurrences, on the last row of the name"
@@ -146,7 +156,7 @@ fn counted_arguments(tree: &Tree, call: usize) -> Vec<Occurrence> {
 /// "After all 60s, rows in order: 61 when marks plus occurrences are 0, 62 when over 1."
 fn uses(rows: &[Row], out: &mut Records) {
     for row in rows {
-        match row.marks + row.occurrences.len() {
+        match row.marks.len() + row.occurrences.len() {
             0 => out.push(at(61, row.place)),
             1 => {}
             _ => out.push(related(62, row.place, related_use(row))),
@@ -158,6 +168,6 @@ fn uses(rows: &[Row], out: &mut Records) {
 /// burn mark, the second when it has none, and 0 if there is no such occurrence." They stand by
 /// their Ident's number.
 fn related_use(row: &Row) -> usize {
-    let which = if row.marks > 0 { 0 } else { 1 };
+    let which = if row.marks.is_empty() { 1 } else { 0 };
     row.occurrences.get(which).map_or(0, |occurrence| occurrence.ident)
 }
