@@ -1,12 +1,14 @@
-//! Images to compare by, all from a seed: admitted ones (`admitted`), the limits of document 01 on
-//! both sides (`limits`), damaged ones (`damaged`), and contracts written by hand with what the
-//! page says of them (`patterns`). What an image does not carry is put into a contract by `fill`.
+//! Images to compare by, all from a seed: admitted ones (`admitted`), those in which lots share names
+//! and clauses (`crowded`), the limits of document 01 on both sides (`limits`), damaged ones
+//! (`damaged`), and contracts written by hand with what the page says of them (`patterns`). What an
+//! image does not carry is put into a contract by `fill`.
 
 pub mod build;
 pub mod patterns;
 pub mod words;
 
 mod body;
+mod crowd;
 mod damage;
 mod expression;
 mod fill;
@@ -39,7 +41,23 @@ pub fn admitted(rng: &mut Rng) -> Vec<u8> {
 
 /// The tree of such an image.
 pub fn tree(rng: &mut Rng) -> Node {
-    let mut tree = if rng.one_in(8) { Wild::new(rng).contract() } else { Maker::new(rng).contract() };
+    let contract = contract(rng);
+    finished(contract, rng)
+}
+
+/// An image that is admitted, and whose entries have lots that share names, and several Burns clauses.
+pub fn crowded(rng: &mut Rng) -> Vec<u8> {
+    let mut contract = contract(rng);
+    crowd::crowd(rng, &mut contract);
+    finished(contract, rng).image()
+}
+
+fn contract(rng: &mut Rng) -> Node {
+    if rng.one_in(8) { Wild::new(rng).contract() } else { Maker::new(rng).contract() }
+}
+
+/// A contract that the form can hold, with span words.
+fn finished(mut tree: Node, rng: &mut Rng) -> Node {
     fit(&mut tree);
     let (from, to) = (rng.bits() as u32, rng.bits() as u32);
     let mut next = 0u32;

@@ -2,19 +2,22 @@
 //! P14, each half (`page`); W, what the page calls tempting and wrong (`tempting`); S, the readings
 //! that docs/RULES.md settles and that no verdict shows, since a verdict ends at the first offence
 //! (`settled`); M, more than one offence of a rule in one item (`several`); F, offences far down a
-//! large image with large span words (`far`).
+//! large image with large span words (`far`). Contracts with what request E3 says of places in them
+//! stand apart (`reasons`).
 //!
 //! A place is named by a mark on its node. A list is written as `25ba 61x`: the code, the mark of
 //! the place, and the mark of the related node where there is one.
 
 mod far;
 mod page;
+mod reasons;
 mod settled;
 mod several;
 mod tempting;
 
 pub use far::reported;
 pub use page::p2;
+pub use reasons::{Explained, most_reasons, reasons};
 
 use crate::build::*;
 use crate::{Node, name, node};
