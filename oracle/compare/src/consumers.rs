@@ -46,7 +46,7 @@ fn found_down(image: &[u8]) -> Vec<Occurrence> {
 }
 
 /// Every Ident that has a consumer, with it.
-fn found_up(tree: &Tree) -> Vec<Occurrence> {
+pub fn found_up(tree: &Tree) -> Vec<Occurrence> {
     let idents = tree.all().filter(|i| tree.kind(*i) == IDENT);
     let found = |ident| consumer(tree, ident).map(|consumer| Occurrence { ident, consumer });
     idents.filter_map(found).collect()

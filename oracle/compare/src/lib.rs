@@ -1,7 +1,7 @@
 //! The comparisons: the reference against the published Rust (`rust`), against what document 01
 //! says by hand (`patterns`), against the report program (`report`), against the proved library
-//! (`port`) and, in what consumes a counted occurrence, against a way of its own (`consumers`); and
-//! the page's crate against the published Rust (`page`).
+//! (`port`) and, in what consumes a counted occurrence and in why a lot is refused, against ways of
+//! their own (`consumers`, `why`); and the page's crate against the published Rust (`page`).
 
 pub mod consumers;
 pub mod images;
@@ -11,6 +11,7 @@ pub mod patterns;
 pub mod port;
 pub mod report;
 pub mod rust;
+pub mod why;
 
 mod dump;
 pub mod mismatch;

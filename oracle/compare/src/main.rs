@@ -1,5 +1,5 @@
-//! `compare rust | patterns | consumers | report PATH | port | page | show FILE`: see `compare` without a
-//! word for the options.
+//! `compare rust | patterns | consumers | why | report PATH | port | page | show FILE`: see `compare`
+//! without a word for the options.
 
 use compare::images::Range;
 use std::process::ExitCode;
@@ -11,11 +11,14 @@ compare patterns
     what document 01 says by hand against both
 compare consumers [--images N] [--seed S]
     what the reference finds to consume each counted occurrence against what one finds on the way up
+compare why [--images N] [--seed S]
+    what the reference finds to use up each lot against what is written by hand, against what one finds
+    place by place, and against the list
 compare report PATH [--status] [--images N] [--seed S]
     the reference against the report program at PATH, and against its exit status where that is asked for
 compare port [--what GROUP,GROUP..] [--images N] [--seed S]
     the reference against the proved library, in all groups or in those named: refusal, questions,
-    verdicts, resolve, access, linear, list, resolve_list, access_list, linear_list
+    verdicts, resolve, access, linear, list, resolve_list, access_list, linear_list, why
 compare page [--images N] [--seed S]
     the page's crate against the published Rust, on generated contracts
 compare show FILE
@@ -33,6 +36,7 @@ fn run(arguments: &[String]) -> Result<String, String> {
         ["rust", options @ ..] => compare::rust::run(range(options, 200_000)?),
         ["patterns"] => compare::patterns::run(),
         ["consumers", options @ ..] => compare::consumers::run(range(options, 100_000)?),
+        ["why", options @ ..] => compare::why::run(range(options, 100_000)?),
         ["report", path, "--status", options @ ..] => {
             compare::report::run(path, true, range(options, 2_000)?)
         }

@@ -1,7 +1,9 @@
 //! `compare rust`: the reference against the published Rust, on images that are admitted. Damaged
 //! images are there too: those that are still admitted are compared, the others are tallied.
 
-use crate::images::{Range, admitted_image, by_hand, damaged_image, names_to_ask};
+use crate::images::{
+    Range, admitted_image, by_hand, damaged_image, labelled_crowded, names_to_ask, of_reasons,
+};
 use crate::judge;
 use crate::mismatch::{Mismatch, same, shown};
 use crate::tally::Tally;
@@ -12,7 +14,7 @@ use reference::{Judged, Pass, Question};
 /// Runs the comparison; the text is what to print, and an `Err` is a failure.
 pub fn run(range: Range) -> Result<String, String> {
     let mut tally = Tally::new();
-    for (label, image) in by_hand() {
+    for (label, image) in by_hand().into_iter().chain(of_reasons()) {
         compare_one(&label, &image, &mut tally)?;
     }
     for index in 0..range.images {
@@ -21,6 +23,10 @@ pub fn run(range: Range) -> Result<String, String> {
         if index % 4 == 3 {
             let label = format!("damaged image {index} of seed {}", range.seed);
             compare_one(&label, &damaged_image(range.seed, index), &mut tally)?;
+        }
+        if index % 8 == 5 {
+            let (label, image) = labelled_crowded(range.seed, index);
+            compare_one(&label, &image, &mut tally)?;
         }
     }
     tally.finish()
