@@ -1,8 +1,10 @@
 //! `compare port`: the reference against the proved library, by groups of its functions, on images
 //! of every class.
 
+mod buffers;
 mod lists;
 mod questions;
+mod why;
 
 use crate::images::{Range, all_classes};
 use crate::mismatch::{Mismatch, same, shown};
@@ -18,7 +20,7 @@ struct Asked<'a> {
 /// A group of functions by its name, and how it is compared on an image.
 type Group = (&'static str, fn(&Asked) -> Result<(), Mismatch>);
 
-const GROUPS: [Group; 10] = [
+const GROUPS: [Group; 11] = [
     ("refusal", refusal),
     ("questions", questions::questions),
     ("verdicts", verdicts),
@@ -29,6 +31,7 @@ const GROUPS: [Group; 10] = [
     ("resolve_list", |asked| lists::part(asked, Pass::Resolve, isonkaypu_sys::resolve_list)),
     ("access_list", |asked| lists::part(asked, Pass::Access, isonkaypu_sys::access_list)),
     ("linear_list", |asked| lists::part(asked, Pass::Linear, isonkaypu_sys::linear_list)),
+    ("why", why::reasons),
 ];
 
 /// Compares the groups asked for, or all of them.
@@ -65,7 +68,11 @@ fn chosen(what: Option<&[&str]>) -> Result<Vec<Group>, String> {
 impl Asked<'_> {
     /// 0 where the image is admitted.
     fn refusal(&self) -> usize {
-        self.judged.as_ref().err().map_or(0, |refusal| usize::from(*refusal))
+        usize::from(self.refused())
+    }
+
+    fn refused(&self) -> u8 {
+        self.judged.as_ref().err().copied().unwrap_or(0)
     }
 
     /// The reference's verdict as the library gives it.
