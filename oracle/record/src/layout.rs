@@ -99,7 +99,7 @@ pub fn readme(images: usize, bytes: usize, room: usize) -> String {
 
 in `oracle/`: the images are document 01's patterns, its limits as far as they are small, and
 generated contracts, admitted and damaged, in which each code and each refusal comes several times.
-The answers are those of `oracle/reference`, the plain reading of document 01; for every admitted
+The answers are those of `oracle/reference`, the plain reading of documents 01 and 02; for every admitted
 image the published Rust was run too, and gave the same code and place for each pass. The list, the
 related words and the refusals are the reference's alone, since the Rust stops at its first error
 and knows no image. The same command writes the same bytes again.

@@ -21,19 +21,19 @@ impl Expected<'static> {
 }
 
 impl Expected<'_> {
-    /// Holds a call with a buffer of this length to it.
+    /// Holds a call with a buffer of this length to it; `what` is asked for its words on a mismatch alone.
     pub fn agrees(
         &self,
-        what: &str,
+        what: impl Fn() -> String,
         length: usize,
         call: impl Fn(&mut [u16]) -> (usize, usize),
     ) -> Result<(), Mismatch> {
         let before = pattern(length + BEHIND);
         let mut buffer = before.clone();
         let answer = call(&mut buffer[..length]);
-        same(what, (self.result, self.count), answer)?;
         let expected = [self.written, &before[self.written.len()..]].concat();
-        same(what, expected, buffer)
+        let compared = same("", (self.result, self.count), answer).and_then(|()| same("", expected, buffer));
+        compared.map_err(|mismatch| Mismatch { what: what(), ..mismatch })
     }
 }
 

@@ -13,10 +13,10 @@ type List = fn(&[u8], &mut [u16]) -> (usize, usize);
 pub fn part(asked: &Asked, pass: Pass, list: List) -> Result<(), Mismatch> {
     let words = words(asked.judged.as_ref().map_or(&[][..], |judged| judged.part(pass)));
     for length in lengths(words.len()) {
-        let what = format!("{}'s part of the list in {length} words", pass.word());
+        let what = || format!("{}'s part of the list in {length} words", pass.word());
         let written = &words[..words.len().min(length)];
         let expected = Expected { result: asked.refusal(), count: words.len() / 3, written };
-        expected.agrees(&what, length, |buffer| list(asked.image, buffer))?;
+        expected.agrees(what, length, |buffer| list(asked.image, buffer))?;
     }
     Ok(())
 }
@@ -25,13 +25,13 @@ pub fn part(asked: &Asked, pass: Pass, list: List) -> Result<(), Mismatch> {
 pub fn full(asked: &Asked) -> Result<(), Mismatch> {
     let words = words(&asked.judged.as_ref().map(|judged| judged.list()).unwrap_or_default());
     for length in lengths(words.len()) {
-        let what = format!("the full list in {length} words");
+        let what = || format!("the full list in {length} words");
         let expected = if length < words.len() {
             Expected::refused(9)
         } else {
             Expected { result: asked.refusal(), count: words.len() / 3, written: &words }
         };
-        expected.agrees(&what, length, |buffer| isonkaypu_sys::list(asked.image, buffer))?;
+        expected.agrees(what, length, |buffer| isonkaypu_sys::list(asked.image, buffer))?;
     }
     Ok(())
 }

@@ -5,6 +5,7 @@
 use super::Asked;
 use super::buffers::Expected;
 use crate::mismatch::Mismatch;
+use crate::why::lengths;
 use generate::Rng;
 use reference::kind::{LET, PARAM};
 use reference::tree::Tree;
@@ -52,16 +53,14 @@ fn far(tree: &Tree, lots: &[Lot], rng: &mut Rng) -> [usize; 5] {
 /// The library's answer at a place, in buffers of several lengths.
 fn agree(asked: &Asked, lots: Result<&[Lot], u8>, place: usize) -> Result<(), Mismatch> {
     let full = why(lots, place, usize::MAX).map_or(0, |words| words.len());
-    let mut lengths = vec![0, full.saturating_sub(1), full, full + 7];
-    lengths.dedup();
-    for length in lengths {
+    for length in lengths(full) {
         let answer = why(lots, place, length);
         let expected = match &answer {
             Ok(words) => Expected { result: 0, count: words.len(), written: words },
             Err(refusal) => Expected::refused(usize::from(*refusal)),
         };
-        let what = format!("why at {place} in {length} words");
-        expected.agrees(&what, length, |buffer| isonkaypu_sys::why(asked.image, place, buffer))?;
+        let what = || format!("why at {place} in {length} words");
+        expected.agrees(what, length, |buffer| isonkaypu_sys::why(asked.image, place, buffer))?;
     }
     Ok(())
 }

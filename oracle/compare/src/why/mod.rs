@@ -88,20 +88,23 @@ fn numbers(tree: &Tree) -> impl Iterator<Item = usize> {
 /// the place is no tracked asset, 10 for a short buffer, in that order".
 fn answers(lots: &[Lot], place: usize, found: Option<&[Reason]>) -> Result<(), Mismatch> {
     let words = found.map(|reasons| reasons.iter().flat_map(|reason| reason.words()).collect::<Vec<u16>>());
-    let length = words.as_ref().map_or(1, Vec::len);
-    for room in [0, length.saturating_sub(1), length, length + 1] {
+    for room in lengths(words.as_ref().map_or(0, Vec::len)) {
         let expected = match &words {
             None => Err(13),
             Some(words) if room < words.len() => Err(10),
             Some(words) => Ok(words.clone()),
         };
-        same(
-            &format!("the entries at {place} in {room} words"),
-            reference::why(Ok(lots), place, room),
-            expected,
-        )?;
+        let answer = reference::why(Ok(lots), place, room);
+        same("place, room and the entries", (place, room, answer), (place, room, expected))?;
     }
     Ok(())
+}
+
+/// The lengths of buffers for so many words: none, one too few, exact, and with room to spare.
+pub fn lengths(words: usize) -> Vec<usize> {
+    let mut lengths = vec![0, words.saturating_sub(1), words, words + 7];
+    lengths.dedup();
+    lengths
 }
 
 /// "the number of entries equals the row's marks plus occurrences, so 61 has none and 62 at least two"; and
@@ -111,13 +114,13 @@ fn said_in_list(judged: &Judged, place: usize, reasons: &[Reason]) -> Result<(),
     let of_place = |r: &&reference::Record| usize::from(r.place) == place && [61, 62].contains(&r.code);
     let record = judged.part(Pass::Linear).iter().find(of_place);
     let code = [61, 0].get(reasons.len()).copied().unwrap_or(62);
-    same(&format!("the code of the lot at {place}"), record.map_or(0, |r| r.code), code)?;
+    same("the lot's place and code", (place, record.map_or(0, |r| r.code)), (place, code))?;
     let uses = reasons.iter().filter(|reason| matches!(reason, Reason::Used(_)));
     let related = record.map_or(0, |r| r.related);
     let is_a_use = uses.clone().any(|used| used.words()[0] == related);
-    same(&format!("related at {place} is a use, or 0"), related != 0, is_a_use)?;
+    same("the lot's place, and whether related is a use", (place, related != 0), (place, is_a_use))?;
     let two_marks = reasons.len() - uses.clone().count() > 1;
-    same(&format!("two marks and a use at {place}"), false, two_marks && uses.count() > 0)
+    same("the lot's place, and two marks with a use", (place, false), (place, two_marks && uses.count() > 0))
 }
 
 /// How many images and lots there were, and how many of the lots show what a simpler reading would miss.
