@@ -52,6 +52,21 @@ fn the_rust_agrees_and_every_code_is_reached() {
     }
 }
 
+/// A comparison that passes over refused images would pass over these.
+#[test]
+fn crowded_images_are_admitted() {
+    for index in 0..2_000 {
+        let image = compare::images::crowded_image(3, index);
+        assert_eq!(reference::refusal(&image), 0, "image {index}");
+    }
+}
+
+/// The run fails as well when lots that share a name, or a clause, come too seldom.
+#[test]
+fn lots_have_the_reasons_that_are_found_place_by_place() {
+    assert_eq!(compare::why::run(Range { images: 2_000, seed: 7 }).err(), None);
+}
+
 #[test]
 fn the_same_seed_gives_the_same_images() {
     let image = compare::images::admitted_image(1, 5);

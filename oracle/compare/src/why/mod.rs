@@ -161,12 +161,12 @@ impl Seen {
         }
     }
 
-    /// A lot to each image is wanted, and one in 200 of the lots that shows each.
+    /// A lot to each image is wanted, and one in 300 of the lots that shows each.
     fn finish(&self) -> Result<String, String> {
         let Seen { images, lots, shown } = *self;
         let counts = SHOWN.iter().zip(shown);
         let listed: Vec<String> = counts.clone().map(|(what, count)| format!("{count} {what}")).collect();
-        let shown = counts.map(|(what, count)| (format!("lots {what}"), count, lots / 200));
+        let shown = counts.map(|(what, count)| (format!("lots {what}"), count, lots / 300));
         let wanted = std::iter::once(("lots".to_string(), lots, images)).chain(shown);
         outcome(format!("{images} images, {lots} lots, {}: ", listed.join(", ")), wanted)
     }
@@ -206,9 +206,9 @@ mod tests {
 
     #[test]
     fn too_few_of_any_are_a_failure() {
-        let all = || Seen { images: 100, lots: 400, shown: [2; SHOWN.len()] };
+        let all = || Seen { images: 100, lots: 600, shown: [2; SHOWN.len()] };
         assert!(all().finish().is_ok());
-        assert!(Seen { images: 401, ..all() }.finish().is_err());
+        assert!(Seen { images: 601, ..all() }.finish().is_err());
         for k in 0..SHOWN.len() {
             let mut seen = all();
             seen.shown[k] = 1;
