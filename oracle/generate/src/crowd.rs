@@ -50,12 +50,12 @@ impl<'r> Crowd<'r> {
 
     fn add_to(&mut self, entry: &mut Node) {
         let mut parts = std::mem::take(&mut entry.children);
-        let of_kind = |is: fn(u8) -> bool| parts.iter().take_while(|part| !is(part.kind)).count();
-        let first_clause = of_kind(|k| kind::is_clause(k) || kind::is_statement(k));
-        let first_statement = of_kind(kind::is_statement);
+        let before = |is: fn(u8) -> bool| parts.iter().take_while(|part| !is(part.kind)).count();
+        let first_clause = before(|k| kind::is_clause(k) || kind::is_statement(k));
+        let first_statement = before(kind::is_statement);
         let mut statements = parts.split_off(first_statement);
         let mut clauses = parts.split_off(first_clause);
-        // behind the entry's Name
+        // what is left is the entry's Name and its parameters
         let mut params = parts.split_off(1);
         self.mix(&mut params, 4, Self::param);
         self.mix(&mut clauses, 4, Self::clause);

@@ -38,6 +38,7 @@ fn said(Mismatch { what, reference, other }: &Mismatch) -> String {
 /// Room for the entries of any lot: two words for each node.
 const ROOM: usize = 4_096;
 
+/// The lots of an image, or its refusal.
 fn lots(image: &[u8]) -> Result<Vec<Lot>, u8> {
     reference::admit(image).map(|tree| reference::lots(&tree))
 }

@@ -175,12 +175,12 @@ fn shared_with_lets() -> Vec<Explained> {
         of("minted of itself", marked(vec![of_itself]), "x=b, l=1s"),
         of("minted twice", marked(vec![minted('l'), sent(), minted('m')]), "x=b, l=, m=1s"),
         of("a Let that is no asset", marked(vec![untracked, sent()]), "x=b 1s, n!"),
-        of("Lets alone", vec![minted('l'), minted('m'), burned_let()], "l=, m=, n=1s"),
+        of("Lets alone", vec![minted('l'), minted('m'), split_off()], "l=, m=, n=1s"),
     ]
 }
 
 /// `let x = checked(x.split(x))`
-fn burned_let() -> Node {
+fn split_off() -> Node {
     local("x", checked(method(ident("x"), "split", vec![x('1')]).marked('s'))).marked('n')
 }
 
