@@ -2,7 +2,7 @@
 use typeck::Listed;
 use typeck::Reply;
 use typeck::Verdict;
-use why::Reasons;
+use why::Explained;
 ghost use mathlib.Core.Path.{_≡_};
 ghost use mathlib.Core.List.{[], _∷_, _++_};
 ghost use Prim.Native.Nat.{_+_, _≤_};
@@ -16,9 +16,9 @@ ghost use Rattle.rules.specs.Linear.{linear};
 ghost use Rattle.rules.specs.Answers.{passAnswer, ask, listAnswer, listBuffer};
 ghost use Rattle.records.specs.Words.{old, new};
 ghost use Rattle.reasons.specs.Answer.{whyAnswer, whyBuffer};
-ghost use Rattle.why.specs.Told.{replyOf};
+ghost use Rattle.why.specs.Face.{explainedBy};
 ghost use Rattle.typeck.specs.Face.{answerOf, numbered, listingOf, partAnswer, partWords};
-ghost use Rattle.isonkaypu.specs.Plain.{Gives, row, Says, Tells, Explains};
+ghost use Rattle.isonkaypu.specs.Plain.{Gives, row, Says, Tells, Counts};
 
 // The number of the image's refusal, 0 where it is admitted.
 #[no_mangle]
@@ -244,15 +244,15 @@ pub extern "C" fn isonkaypu_linear_list(image: &[u8], words: &mut [u16], count: 
 }
 
 // The number of an answer to why, and how many words it has.
-fn explain(v: Reasons, count: &mut usize) -> usize
-    ensures { λ r. ⌜ Explains (replyOf v) r (new count) ⌝ }
+fn explain(v: Explained, count: &mut usize) -> usize
+    ensures { λ r. ⌜ Counts (explainedBy v) r (new count) ⌝ }
 {
     match v {
-        Reasons::Refused(r) => {
+        Explained::Refused(r) => {
             *count = 0;
             r
         }
-        Reasons::Words(k) => {
+        Explained::Words(k) => {
             *count = k;
             0
         }
@@ -267,7 +267,7 @@ pub extern "C" fn isonkaypu_why(
     words: &mut [u16],
     count: &mut usize,
 ) -> usize
-    ensures { λ r. ⌜ Explains (whyAnswer (old image) place (length (old words))) r (new count) × (new words ≡ whyBuffer (old image) place (old words)) ⌝ }
+    ensures { λ r. ⌜ Counts (whyAnswer (old image) place (length (old words))) r (new count) × (new words ≡ whyBuffer (old image) place (old words)) ⌝ }
 {
     explain(why::why(image, place, words), count)
 }

@@ -18,8 +18,8 @@ use Rattle.rules.proofs.Reflect.{Finds, finds-as, finds-nothing, finds-below, f
 use Rattle.rules.proofs.Linear.{RowKind, tells-isRow, row-so, row-kind, row-below}
 use Rattle.reasons.specs.Reasons.{TrackedAt}
 use Rattle.reasons.specs.Compute.{reasons, reasonsAt}
-use Rattle.reasons.specs.Answer.{refused, told, replyBy, wordsOf, whyAnswer, whyBuffer}
-use Rattle.reasons.specs.Promised.{NoLot, Unwritten}
+use Rattle.reasons.specs.Answer.{whyRefused, whyTold, replyBy, wordsOf, whyAnswer, whyBuffer}
+use Rattle.reasons.specs.Demands.{NoLot, TellsNothing}
 use Rattle.reasons.proofs.Rows.{one-row}
 
 finds-one : (w : List ℕ) → Finds (w ∷ []) (λ v. v ≡ w)
@@ -62,11 +62,11 @@ row-or-none t p = go (reasonsAt t p) (finds-at t p)
 -- Answers
 
 module _ (s o : List ℕ) (p : ℕ) where
-  unwritten : (r : ℕ) → (r ≡ 0 → ⊥) → whyAnswer s p (length o) ≡ refused r → Unwritten s p o r
+  unwritten : (r : ℕ) → (r ≡ 0 → ⊥) → whyAnswer s p (length o) ≡ whyRefused r → TellsNothing s p o r
   unfolding whyBuffer
   unwritten r n e = (e, rw e (rw (ne-eqb r 0 n) refl))
 
-  pub image-refused : (refusal s ≡ 0 → ⊥) → Unwritten s p o (refusal s)
+  pub image-refused : (refusal s ≡ 0 → ⊥) → TellsNothing s p o (refusal s)
   unfolding whyAnswer
   image-refused n = unwritten (refusal s) n (simp (ne-eqb (refusal s) 0 n))
 
@@ -75,16 +75,16 @@ module _ (s o : List ℕ) (p : ℕ) where
     unfolding whyAnswer
     by-found e = simp (eq-eqb (refusal s) 0 z) (ap (λ (m : List (List ℕ)). replyBy m (length o)) e)
 
-    pub no-lot : NoLot (tree s) p → Unwritten s p o 13
+    pub no-lot : NoLot (tree s) p → TellsNothing s p o 13
     no-lot n = unwritten 13 (λ e. omega arith) (by-found (found-none (tree s) p n))
 
     module _ (e x : ℕ) (r : TrackedAt (tree s) p e x) where
-      pub too-short : length o < length (reasons (tree s) e x) → Unwritten s p o 10
+      pub too-short : length o < length (reasons (tree s) e x) → TellsNothing s p o 10
       too-short l = unwritten 10 (λ e. omega arith) (by-found (found-one s p e x z r .1) ∙ simp (lt-ltb (length o) (length (reasons (tree s) e x)) l))
 
-      pub all-told : length (reasons (tree s) e x) ≤ length o → (whyAnswer s p (length o) ≡ told (length (reasons (tree s) e x))) × (whyBuffer s p o ≡ sets o 0 (reasons (tree s) e x))
+      pub all-told : length (reasons (tree s) e x) ≤ length o → (whyAnswer s p (length o) ≡ whyTold (length (reasons (tree s) e x))) × (whyBuffer s p o ≡ sets o 0 (reasons (tree s) e x))
       unfolding whyBuffer
       all-told l =
           let f = found-one s p e x z r in
-          let a : whyAnswer s p (length o) ≡ told (length (reasons (tree s) e x)) = by-found (f .1) ∙ simp (le-ltb (length o) (length (reasons (tree s) e x)) l) in
+          let a : whyAnswer s p (length o) ≡ whyTold (length (reasons (tree s) e x)) = by-found (f .1) ∙ simp (le-ltb (length o) (length (reasons (tree s) e x)) l) in
           (a, rw a (ap (λ (m : List (List ℕ)). sets o 0 (wordsOf m)) (f .1)))

@@ -2,4 +2,4 @@ pub mod Said
 pub mod Rows
 pub mod Reasons
 pub mod Found
-pub mod Promised
+pub mod Demands

@@ -7,7 +7,7 @@ use native.Mathlib.Omega.{arith}
 use lib.ListN.{length}
 use Rattle.reasons.specs.Reasons.{Said}
 use Rattle.reasons.specs.Compute.{each}
-use Rattle.reasons.specs.Promised.{Entry}
+use Rattle.reasons.specs.Demands.{HasEntry}
 
 module _ (E : ℕ → ℕ → ℕ → Type 0) where
   -- two words for each node
@@ -37,7 +37,7 @@ module _ (E : ℕ → ℕ → ℕ → Type 0) where
       ap₂ _∷_ (e .0) (ap₂ _∷_ (e .1) (said-one l v w (λ y f g i j m. h y f g i j (List·Memᴰ·tail m)) (s .1) (r .1)))
 
   -- each node has its entry; it is found behind other entries too
-  pub said-entry : (l w : List ℕ) (x : ℕ) → ((y a b : ℕ) → E y a b → a ≡ y) → Said E l w → List·Memᴰ x l → (b : ℕ) × Entry x b w
+  pub said-entry : (l w : List ℕ) (x : ℕ) → ((y a b : ℕ) → E y a b → a ≡ y) → Said E l w → List·Memᴰ x l → (b : ℕ) × HasEntry x b w
   said-entry [] w x h s m = absurd (List·Memᴰ·not-nil m)
   said-entry (y ∷ l) [] x h s m = absurd s
   said-entry (y ∷ l) (a ∷ []) x h s m = absurd s
@@ -47,7 +47,7 @@ module _ (E : ℕ → ℕ → ℕ → Type 0) where
       (λ (n : List·Memᴰ x l). let i = said-entry l w x h (s .1) n in (i .0, inr (i .1)))
       (List·Memᴰ·cases-cons m)
 
-  pub entry-behind : (l v u : List ℕ) (a b : ℕ) → Said E l v → Entry a b u → Entry a b (v ++ u)
+  pub entry-behind : (l v u : List ℕ) (a b : ℕ) → Said E l v → HasEntry a b u → HasEntry a b (v ++ u)
   entry-behind [] [] u a b s e = e
   entry-behind [] (c ∷ v) u a b s e = absurd s
   entry-behind (x ∷ l) [] u a b s e = absurd s

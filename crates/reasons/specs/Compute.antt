@@ -1,4 +1,4 @@
--- To be skipped by a reader: the list of a row's reasons as it is computed. Promised ties it to the facts: of every admitted image it
+-- To be skipped by a reader: the list of a row's reasons as it is computed. Demands ties it to the facts: of every admitted image it
 -- is the one list that they allow.
 use Prim.Native.Nat.{ℕ, suc, _-_}
 use mathlib.Core.Bool.{Bool, not, _&&_, _||_}

@@ -26,12 +26,13 @@ use Rattle.linear_parts.proofs.Lists.{row-at, at-row}
 use Rattle.linear_tracked.specs.Rows.{Rows}
 use Rattle.reasons.specs.Reasons.{TrackedAt}
 use Rattle.reasons.specs.Compute.{reasons}
-use Rattle.reasons.specs.Answer.{told, whyAnswer}
-use Rattle.reasons.specs.Promised.{NoLot, Unwritten}
+use Rattle.reasons.specs.Answer.{whyTold, whyAnswer}
+use Rattle.reasons.specs.Demands.{NoLot, TellsNothing}
 use Rattle.reasons.proofs.Rows.{holds-place, held-by}
 use Rattle.reasons.proofs.Found.{image-refused, no-lot, too-short, all-told}
-use Rattle.why.specs.declared.Reasons.the-variants.{Refused, Words}
-use Rattle.why.specs.Told.{Wrote, Rowed, EntryAt, RowAt, rowNode, Answers}
+use Rattle.why.specs.declared.Explained.the-variants.{Refused, Words}
+use Rattle.why.specs.Told.{Wrote, Rowed, EntryAt, RowAt, rowNode}
+use Rattle.why.specs.Face.{Explains}
 
 -- Which row
 
@@ -82,29 +83,29 @@ module _ {nodes : List ℕ} {place e : ℕ} (W : View nodes 0) (A : EntryAt W pl
 -- What is answered
 
 module _ (s o : List ℕ) (p : ℕ) where
-  pub answer-refused : (k : ℕ) → (k ≡ 0 → ⊥) → Unwritten s p o k → Answers s p o (Refused k) o
+  pub answer-refused : (k : ℕ) → (k ≡ 0 → ⊥) → TellsNothing s p o k → Explains s p o (Refused k) o
   answer-refused k n u = (record { numbers = sym (u .0); case = rw (u .0) (simp (ne-eqb k 0 n)) }, sym (u .1))
 
-  pub answer-image : (k : ℕ) → admissionOf (refusal s) s ≡ admission.Refused k → Answers s p o (Refused k) o
+  pub answer-image : (k : ℕ) → admissionOf (refusal s) s ≡ admission.Refused k → Explains s p o (Refused k) o
   answer-image k e =
       let n = refused-is (refusal s) s k e in
       let d = refused-number s k e in
       answer-refused k (λ z. n (sym d ∙ z)) (rw d (image-refused s o p n))
 
   module _ (z : refusal s ≡ 0) where
-    pub answer-no-lot : NoLot (tree s) p → Answers s p o (Refused 13) o
+    pub answer-no-lot : NoLot (tree s) p → Explains s p o (Refused 13) o
     answer-no-lot n = answer-refused 13 (λ e. omega arith) (no-lot s o p z n)
 
     -- the words of the row were counted; the buffer is too short for them, or they were written
     module _ (e x : ℕ) (r : TrackedAt (tree s) p e x) {none none′ : List ℕ} {asked : ℕ} (q : Wrote none 0 (reasons (tree s) e x) none′ asked) where
-      pub answer-short : length o < asked → Answers s p o (Refused 10) o
+      pub answer-short : length o < asked → Explains s p o (Refused 10) o
       answer-short l = let c = q .count in answer-refused 10 (λ d. omega arith) (too-short s o p z e x r (omega arith))
 
-      pub answer-told : asked ≤ length o → {o′ : List ℕ} {k : ℕ} → Wrote o 0 (reasons (tree s) e x) o′ k → Answers s p o (Words k) o′
+      pub answer-told : asked ≤ length o → {o′ : List ℕ} {k : ℕ} → Wrote o 0 (reasons (tree s) e x) o′ k → Explains s p o (Words k) o′
       answer-told l {o′} {k} w =
           let c = q .count in
           let d = w .count in
           let f : length (reasons (tree s) e x) ≡ k = omega arith in
           let u = all-told s o p z e x r (omega arith) in
-          let a : whyAnswer s p (length o) ≡ told k = u .0 ∙ ap told f in
+          let a : whyAnswer s p (length o) ≡ whyTold k = u .0 ∙ ap whyTold f in
           (record { numbers = sym a; case = rw a refl }, w .words ∙ sym (u .1))

@@ -20,7 +20,7 @@ use Rattle.linear_parts.specs.Parts.{rowsOf, firstRow, lastRow}
 use Rattle.linear_uses.specs.Uses.{burnsOn, usesOn}
 use Rattle.linear.proofs.Select.{marks-on, uses-on}
 use Rattle.reasons.specs.Compute.{clauseWords, useWords, each, reasons}
-use Rattle.why.specs.Told.{Marking, Using, Rowed, rowNode}
+use Rattle.why.specs.Told.{Marking, Telling, Rowed, rowNode}
 
 module _ {nodes : List ℕ} {e row asset : ℕ} {reader : List Bool} {first last : List ℕ} (T : Rowed nodes e row asset reader first last) where
   abbrev t : Tree
@@ -39,7 +39,7 @@ module _ {nodes : List ℕ} {e row asset : ℕ} {reader : List Bool} {first last
   }
 
   -- for the counted occurrences
-  abbrev pub using-of : {part : List ℕ} {start : ℕ} → Starts (T .view) e start → Shown (T .view .image) part start (treeOf (T .view) .end e) → Using part start reader last
+  abbrev pub using-of : {part : List ℕ} {start : ℕ} → Starts (T .view) e start → Shown (T .view .image) part start (treeOf (T .view) .end e) → Telling part start reader last
   using-of S H = record {
     counting = counting-of (T .view) (T .reader-marks) (T .is-entry .after) (List·Memᴰ·eq-of-singleton (T .is-entry .kind)) S H;
     row-of = lastRow (treeOf (T .view)) (rowsOf e (treeOf (T .view)));

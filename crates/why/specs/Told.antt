@@ -1,12 +1,11 @@
--- What `why` tells of a row (E3 of document 02), what is lent to tell it, and what is answered then.
+-- What `why` tells of a row (E3 of document 02), and what is lent to tell it.
 use Prim.Native.Nat.{ℕ, _+_, _-_, _<_, _≤_}
 use mathlib.Core.Path.{_≡_}
 use mathlib.Core.Bool.{Bool}
 use mathlib.Core.List.{List, [], _∷_}
-use lib.Dec.{ltb, eqb}
+use lib.Dec.{eqb}
 use lib.ListN.{length, getD}
 use lib.Seq.{sets}
-use Rattle.image.specs.Pick.{pick}
 use Rattle.rules.specs.Sweep.{keep}
 use Rattle.rules.specs.Tree.{Tree, entry as entries, burns}
 use Rattle.rules.specs.Words.{Q-Asset}
@@ -20,10 +19,6 @@ use Rattle.linear_occurrences.specs.declared.Occurrence.{Occurrence}
 use Rattle.linear_occurrences.specs.declared.Occurrence.the-variants.{Nothing, Consumed}
 use Rattle.linear_occurrences.specs.Counted.{Counting, isReader}
 use Rattle.linear_parts.specs.Parts.{rowsOf, firstRow, lastRow}
-use Rattle.passes.specs.Verdicts.{Stands}
-use Rattle.reasons.specs.Answer as reasons
-use Rattle.why.specs.declared.Reasons.{Reasons}
-use Rattle.why.specs.declared.Reasons.the-variants.{Refused, Words}
 
 -- Words
 
@@ -33,8 +28,8 @@ pub record Wrote (o₀ : List ℕ) (k₀ : ℕ) (w : List ℕ) (o : List ℕ) (k
   pub words : o ≡ sets o₀ k₀ w
 
 -- a function that is lent `out`, with `count` words before, adds those that F gives, whichever x the nodes are seen by: at most so many
-abbrev pub Tells : {X : Type 0} → (X → List ℕ) → ℕ → Lent (List ℕ) → ℕ → ℕ → Type 0
-Tells {X} F most out count r = ((x : X) → Wrote (old out) count (F x) (new out) r) × (r ≤ count + most)
+abbrev pub AddsWords : {X : Type 0} → (X → List ℕ) → ℕ → Lent (List ℕ) → ℕ → ℕ → Type 0
+AddsWords {X} F most out count r = ((x : X) → Wrote (old out) count (F x) (new out) r) × (r ≤ count + most)
 
 -- What is lent
 
@@ -52,7 +47,7 @@ pub record Marking (nodes : List ℕ) (e asset : ℕ) (clauses rows : List ℕ) 
   pub noted : Places (clausal .view .image) row-of rows
 
 -- the statements of an entry, the words that only read, and a row for each name
-pub record Using (nodes : List ℕ) (base : ℕ) (reader : List Bool) (rows : List ℕ) : Type 0 where
+pub record Telling (nodes : List ℕ) (base : ℕ) (reader : List Bool) (rows : List ℕ) : Type 0 where
   pub counting : Counting nodes base reader
   pub row-of : List ℕ → ℕ
   pub noted : Places (counting .view .image) row-of rows
@@ -92,16 +87,3 @@ pub record RowAt (n : ℕ) (places : List ℕ) (p r : ℕ) : Type 0 where
   pub none : r ≡ 0 → (k : ℕ) → k < n → getD places k 0 ≡ p → ⊥
   pub few : r ≤ n
   pub is : 0 < r → getD places (r - 1) 0 ≡ p
-
--- What is answered
-
--- the numbers of each case, and the case that numbers name
-abbrev pub replyOf : Reasons → reasons.Reply
-replyOf (Refused r) = reasons.refused r
-replyOf (Words k) = reasons.told k
-
-abbrev pub whyOf : reasons.Reply → Reasons
-whyOf a = pick (eqb (a .number) 0) (Words (a .words)) (Refused (a .number))
-
-abbrev pub Answers : List ℕ → ℕ → List ℕ → Reasons → List ℕ → Type 0
-Answers s p words r words′ = Stands replyOf whyOf (reasons.whyAnswer s p (length words)) r × (words′ ≡ reasons.whyBuffer s p words)

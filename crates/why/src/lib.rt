@@ -28,10 +28,11 @@ ghost use Rattle.linear.specs.Seen.{LookedWords};
 ghost use Rattle.reasons.specs.Reasons.{TrackedAt};
 ghost use Rattle.reasons.specs.Compute.{clauseOf, clauseWords, useWords, each, reasons};
 ghost use Rattle.places.specs.Places.{Places};
-ghost use Rattle.why.specs.Told.{Wrote, Tells, Clauses, Marking, Using, Rowed, rowNode, EntryAt, RowAt, foundWords, Answers};
+ghost use Rattle.why.specs.Told.{Wrote, AddsWords, Clauses, Marking, Telling, Rowed, rowNode, EntryAt, RowAt, foundWords};
+ghost use Rattle.why.specs.Face.{Explains};
 
 // What is answered: the refusal, or how many words there are.
-pub enum Reasons {
+pub enum Explained {
     Refused(usize),
     Words(usize),
 }
@@ -39,7 +40,7 @@ pub enum Reasons {
 // An entry behind `count` words, where there is room; it is always counted.
 fn tell(out: &mut [u16], count: usize, node: usize, beside: u16) -> usize
     requires { ⌜ (count < 2 ^ 60) × (node < 65536) ⌝ }
-    ensures { λ r. ⌜ Tells (λ (_ : Unit {0}). node ∷ beside ∷ []) 2 out count r ⌝ }
+    ensures { λ r. ⌜ AddsWords (λ (_ : Unit {0}). node ∷ beside ∷ []) 2 out count r ⌝ }
 {
     records::put(out, count, node as u16);
     records::put(out, count + 1, beside);
@@ -71,7 +72,7 @@ fn tell_mark(
     count: usize,
 ) -> usize
     requires { ⌜ Marking (now nodes) entry asset (now clauses) (now first) × In (now nodes) 0 p × (0 < row) × (count < 2 ^ 60) ⌝ }
-    ensures { λ r. ⌜ Tells (λ (T : Marking (old nodes) entry asset (old clauses) (old first)). each (clauseWords (treeOf (T .clausal .view)) entry) (burnAt (treeOf (T .clausal .view)) entry (T .row-of) (row - 1) p)) 2 out count r ⌝ }
+    ensures { λ r. ⌜ AddsWords (λ (T : Marking (old nodes) entry asset (old clauses) (old first)). each (clauseWords (treeOf (T .clausal .view)) entry) (burnAt (treeOf (T .clausal .view)) entry (T .row-of) (row - 1) p)) 2 out count r ⌝ }
 {
     if nodes::kind(nodes, 0, p) != PARAM {
         return count;
@@ -98,7 +99,7 @@ fn tell_marks(
     out: &mut [u16],
 ) -> usize
     requires { ⌜ Marking (now nodes) entry asset (now clauses) (now first) × Head (now nodes) 0 entry to × (0 < row) ⌝ }
-    ensures { λ r. ⌜ Tells (λ (T : Marking (old nodes) entry asset (old clauses) (old first)). each (clauseWords (treeOf (T .clausal .view)) entry) (burnsOn (treeOf (T .clausal .view)) entry (T .row-of) (row - 1))) 4096 out 0 r ⌝ }
+    ensures { λ r. ⌜ AddsWords (λ (T : Marking (old nodes) entry asset (old clauses) (old first)). each (clauseWords (treeOf (T .clausal .view)) entry) (burnsOn (treeOf (T .clausal .view)) entry (T .row-of) (row - 1))) 4096 out 0 r ⌝ }
 {
     let mut total = 0;
     let mut children = Cursor {
@@ -156,8 +157,8 @@ fn tell_uses(
     out: &mut [u16],
     count: usize,
 ) -> usize
-    requires { ⌜ Using (now nodes) base (now reader) (now last) × Clear base (now consumers) × (0 < row) × (count < 2 ^ 50) ⌝ }
-    ensures { λ r. ⌜ Tells (λ (T : Using (old nodes) base (old reader) (old last)). each (useWords (treeOf (T .counting .view)) (T .counting .entry)) (usesOn (treeOf (T .counting .view)) (T .counting .entry) (T .row-of) base (T .counting .view .upto) (row - 1))) 4096 out count r ⌝ }
+    requires { ⌜ Telling (now nodes) base (now reader) (now last) × Clear base (now consumers) × (0 < row) × (count < 2 ^ 50) ⌝ }
+    ensures { λ r. ⌜ AddsWords (λ (T : Telling (old nodes) base (old reader) (old last)). each (useWords (treeOf (T .counting .view)) (T .counting .entry)) (usesOn (treeOf (T .counting .view)) (T .counting .entry) (T .row-of) base (T .counting .view .upto) (row - 1))) 4096 out count r ⌝ }
 {
     let end = base + nodes.len() / 16;
     let mut total = count;
@@ -182,7 +183,7 @@ fn tell_row(
     out: &mut [u16],
 ) -> usize
     requires { ⌜ Rowed (now nodes) entry row asset (now reader) (now first) (now last) ⌝ }
-    ensures { λ r. ⌜ Tells (λ (T : Rowed (old nodes) entry row asset (old reader) (old first) (old last)). reasons (treeOf (T .view)) entry (rowNode (treeOf (T .view)) entry row)) 8192 out 0 r ⌝ }
+    ensures { λ r. ⌜ AddsWords (λ (T : Rowed (old nodes) entry row asset (old reader) (old first) (old last)). reasons (treeOf (T .view)) entry (rowNode (treeOf (T .view)) entry row)) 8192 out 0 r ⌝ }
 {
     let start = items::first_statement(nodes, 0, entry);
     let mut clauses = [0u16; Image::NAMES];
@@ -203,17 +204,17 @@ fn answer_row(
     first: &Places,
     last: &Places,
     out: &mut [u16],
-) -> Reasons
+) -> Explained
     requires { ⌜ Rowed (now nodes) entry row asset (now reader) (now first) (now last) ⌝ }
-    ensures { λ r. ⌜ ((T : Rowed (old nodes) entry row asset (old reader) (old first) (old last)) (p : ℕ) → TrackedAt (treeOf (T .view)) p entry (rowNode (treeOf (T .view)) entry row) → Answers (T .view .image) p (old out) r (new out)) ⌝ }
+    ensures { λ r. ⌜ ((T : Rowed (old nodes) entry row asset (old reader) (old first) (old last)) (p : ℕ) → TrackedAt (treeOf (T .view)) p entry (rowNode (treeOf (T .view)) entry row) → Explains (T .view .image) p (old out) r (new out)) ⌝ }
 {
     let size = out.len();
     let mut none = [0u16; 0];
     let asked = tell_row(asset, nodes, entry, row, reader, first, last, &mut none);
     if size < asked {
-        return Reasons::Refused(10);
+        return Explained::Refused(10);
     }
-    Reasons::Words(tell_row(asset, nodes, entry, row, reader, first, last, out))
+    Explained::Words(tell_row(asset, nodes, entry, row, reader, first, last, out))
 }
 
 fn wide(x: u16) -> usize
@@ -244,9 +245,9 @@ fn answer_entry(
     entry: usize,
     place: usize,
     out: &mut [u16],
-) -> Reasons
+) -> Explained
     requires { ⌜ ((T : LookedWords (now nodes) words) × EntryAt (T .view) place entry) × (0 < entry) ⌝ }
-    ensures { λ r. ⌜ ((T : LookedWords (old nodes) words) → EntryAt (T .view) place entry → Answers (T .view .image) place (old out) r (new out)) ⌝ }
+    ensures { λ r. ⌜ ((T : LookedWords (old nodes) words) → EntryAt (T .view) place entry → Explains (T .view .image) place (old out) r (new out)) ⌝ }
 {
     let asset_words = linear_parts::asset_words(words);
     let asset = asset_words.asset;
@@ -266,7 +267,7 @@ fn answer_entry(
     );
     let row = row_at(tracked.rows, &places, place);
     if row == 0 {
-        return Reasons::Refused(13);
+        return Explained::Refused(13);
     }
     let mut reader = [false; Image::NAMES];
     linear_occurrences::mark_readers(words, &mut reader);
@@ -309,25 +310,25 @@ fn entry_at(nodes: &[u8], place: usize) -> usize
 }
 
 // What is answered of an admitted image.
-fn answer(image: &[u8], head: Image, place: usize, out: &mut [u16]) -> Reasons
+fn answer(image: &[u8], head: Image, place: usize, out: &mut [u16]) -> Explained
     requires { ⌜ Admitted (now image) head ⌝ }
-    ensures { λ r. ⌜ Answers (old image) place (old out) r (new out) ⌝ }
+    ensures { λ r. ⌜ Explains (old image) place (old out) r (new out) ⌝ }
 {
     let nodes = nodes::area(image, head);
     let entry = entry_at(nodes, place);
     if entry == 0 {
-        return Reasons::Refused(13);
+        return Explained::Refused(13);
     }
     let words = names::find_words(image, head);
     answer_entry(words, nodes, entry, place, out)
 }
 
 // Why the lot at this place is refused, or is not: its clauses and its uses, two words each. Refusals: 1 to 8, those of the image; 13, no lot stands there; 10, the buffer is too short.
-pub fn why(image: &[u8], place: usize, words: &mut [u16]) -> Reasons
-    ensures { λ r. ⌜ Answers (old image) place (old words) r (new words) ⌝ }
+pub fn why(image: &[u8], place: usize, words: &mut [u16]) -> Explained
+    ensures { λ r. ⌜ Explains (old image) place (old words) r (new words) ⌝ }
 {
     match admission::admit(image) {
-        Admission::Refused(r) => Reasons::Refused(r),
+        Admission::Refused(r) => Explained::Refused(r),
         Admission::Admitted(head) => answer(image, head, place, words),
     }
 }

@@ -15,7 +15,7 @@ use Rattle.linear_occurrences.proofs.Ahead.{ahead-starts, ahead-on}
 use Rattle.linear_uses.specs.Uses.{useAt}
 use Rattle.linear_uses.proofs.Uses.{spoken}
 use Rattle.reasons.specs.Compute.{useWords, each}
-use Rattle.why.specs.Told.{Wrote, Using}
+use Rattle.why.specs.Told.{Wrote, Telling}
 use Rattle.why.proofs.Words.{wrote-as, wrote-follows, wrote-long, each-run}
 use Rattle.why.proofs.Uses.{found-told}
 use Rattle.why.proofs.tell_uses.Statement.{statement}
@@ -24,8 +24,8 @@ use Rattle.why.proofs.tell_uses.Tie as tie
 abbrev Inv-loop : tie.InvT-loop
 Inv-loop nodes base row reader consumers₀ last out₀ count end total₀ p₀ consumers out total p =
     Span nodes base base end
-    × Sweeps Wrote (λ (T : Using nodes base reader last) i. each (useWords (treeOf (T .counting .view)) (T .counting .entry)) (useAt (treeOf (T .counting .view)) (T .counting .entry) (T .row-of) (row - 1) i)) base end 2 out₀ count out total p
-    × ((T : Using nodes base reader last) → Ahead (treeOf (T .counting .view)) base p consumers)
+    × Sweeps Wrote (λ (T : Telling nodes base reader last) i. each (useWords (treeOf (T .counting .view)) (T .counting .entry)) (useAt (treeOf (T .counting .view)) (T .counting .entry) (T .row-of) (row - 1) i)) base end 2 out₀ count out total p
+    × ((T : Telling nodes base reader last) → Ahead (treeOf (T .counting .view)) base p consumers)
 
 abbrev μ-loop : tie.MeasureT-loop
 μ-loop nodes base row reader consumers₀ last out₀ count end total₀ p₀ consumers out total p = end - p

@@ -1,5 +1,5 @@
--- What is promised of `why`, on one page: by which facts it answers, and that the reason is the true one. Proved in proofs/Promised, as
--- `promised`. The bytes s of an image, the place p and the words o of a buffer are any.
+-- What is promised of `why`, on one page: by which facts it answers, and that the reason is the true one. Proved in proofs/Demands, as
+-- `demand-why`. The bytes s of an image, the place p and the words o of a buffer are any.
 use Prim.Native.Nat.{ℕ, _+_, _*_, _<_, _≤_}
 use mathlib.Core.Path.{_≡_}
 use mathlib.Core.List.{List, [], _∷_}
@@ -12,7 +12,7 @@ use Rattle.rules.specs.Vocabulary.{AllOf}
 use Rattle.rules.specs.Linear.{Mark, Use, Offence61, Offence62}
 use Rattle.rules.specs.Answers.{IsRefused, IsAdmitted}
 use Rattle.reasons.specs.Reasons.{TrackedAt, Reasons}
-use Rattle.reasons.specs.Answer.{refused, told, whyAnswer, whyBuffer}
+use Rattle.reasons.specs.Answer.{whyRefused, whyTold, whyAnswer, whyBuffer}
 
 -- p is the place of no tracked asset
 abbrev pub NoLot : Tree → ℕ → Type 0
@@ -26,24 +26,24 @@ pub record Lot (t : Tree) (p : ℕ) (w : List ℕ) : Type 0 where
   pub reasons : Reasons t entry row w
 
 -- an entry of w has the words a and b
-abbrev pub Entry : ℕ → ℕ → List ℕ → Type 0
-Entry a b [] = ⊥
-Entry a b (c ∷ []) = ⊥
-Entry a b (c ∷ d ∷ w) = ((a ≡ c) × (b ≡ d)) ⊎ Entry a b w
+abbrev pub HasEntry : ℕ → ℕ → List ℕ → Type 0
+HasEntry a b [] = ⊥
+HasEntry a b (c ∷ []) = ⊥
+HasEntry a b (c ∷ d ∷ w) = ((a ≡ c) × (b ≡ d)) ⊎ HasEntry a b w
 
 -- nothing is written, and the refusal is r
-abbrev pub Unwritten : List ℕ → ℕ → List ℕ → ℕ → Type 0
-Unwritten s p o r = (whyAnswer s p (length o) ≡ refused r) × (whyBuffer s p o ≡ o)
+abbrev pub TellsNothing : List ℕ → ℕ → List ℕ → ℕ → Type 0
+TellsNothing s p o r = (whyAnswer s p (length o) ≡ whyRefused r) × (whyBuffer s p o ≡ o)
 
-pub record Promised : Type 0 where
+pub record Demand-why : Type 0 where
   -- "Refusals: 1 to 8, 13 when the place is no tracked asset, 10 for a short buffer, in that order"; else the words are there, and past
   -- them nothing changes
-  pub image : (s o : List ℕ) (p : ℕ) → IsRefused s → Unwritten s p o (refusal s)
-  pub no-lot : (s o : List ℕ) (p : ℕ) → IsAdmitted s → NoLot (tree s) p → Unwritten s p o 13
-  pub short : (s o w : List ℕ) (p : ℕ) → IsAdmitted s → Lot (tree s) p w → length o < length w → Unwritten s p o 10
+  pub image : (s o : List ℕ) (p : ℕ) → IsRefused s → TellsNothing s p o (refusal s)
+  pub no-lot : (s o : List ℕ) (p : ℕ) → IsAdmitted s → NoLot (tree s) p → TellsNothing s p o 13
+  pub short : (s o w : List ℕ) (p : ℕ) → IsAdmitted s → Lot (tree s) p w → length o < length w → TellsNothing s p o 10
   pub whole :
       (s o w : List ℕ) (p : ℕ) → IsAdmitted s → Lot (tree s) p w → length w ≤ length o
-      → (whyAnswer s p (length o) ≡ told (length w)) × (whyBuffer s p o ≡ sets o 0 w)
+      → (whyAnswer s p (length o) ≡ whyTold (length w)) × (whyBuffer s p o ≡ sets o 0 w)
   -- one of these holds, and only one: a place has one row at most, and a row one list of words
   pub decided : (s : List ℕ) (p : ℕ) → IsAdmitted s → NoLot (tree s) p ⊎ ((w : List ℕ) × Lot (tree s) p w)
   pub one-row :
@@ -59,7 +59,7 @@ pub record Promised : Type 0 where
       (s w : List ℕ) (p : ℕ) → IsAdmitted s → Lot (tree s) p w → ((q : ℕ) × Offence62 (tree s) p q) ↔ (2 * 2 ≤ length w)
   -- 62's related word (E4) is one of them, or 0
   pub related :
-      (s w : List ℕ) (p q : ℕ) → IsAdmitted s → Lot (tree s) p w → Offence62 (tree s) p q → (q ≡ 0) ⊎ ((b : ℕ) × Entry q b w)
+      (s w : List ℕ) (p q : ℕ) → IsAdmitted s → Lot (tree s) p w → Offence62 (tree s) p q → (q ≡ 0) ⊎ ((b : ℕ) × HasEntry q b w)
   -- a row with two marks has no occurrence: marks go to the first row of a name, occurrences to the last
   pub marked-twice :
       (s m : List ℕ) (p e x i : ℕ) → IsAdmitted s → TrackedAt (tree s) p e x → AllOf (Mark (tree s) e x) m → 1 < length m

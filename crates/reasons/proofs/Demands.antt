@@ -1,4 +1,4 @@
--- `promised`: `why` answers by the facts, and the reason is the true one.
+-- `demand-why`: `why` answers by the facts, and the reason is the true one.
 use Prim.Native.Nat.{ℕ, suc, _+_, _*_, _<_, _≤_}
 use mathlib.Core.Path.{_≡_, refl, ap, ap₂, sym, _∙_, subst}
 use mathlib.Core.List.{List, [], _∷_, List·Memᴰ·head, List·Memᴰ·not-nil}
@@ -12,7 +12,7 @@ use Rattle.rules.specs.Linear.{Mark, Use, Offence61, Offence62}
 use Rattle.rules.proofs.Related.{points-at-use}
 use Rattle.reasons.specs.Reasons.{SaysClause, SaysUse}
 use Rattle.reasons.specs.Compute.{reasons}
-use Rattle.reasons.specs.Promised.{Lot, Entry, Promised}
+use Rattle.reasons.specs.Demands.{Lot, HasEntry, Demand-why}
 use Rattle.reasons.proofs.Said.{said-entry, entry-behind}
 use Rattle.reasons.proofs.Rows.{one-row, marked-twice}
 use Rattle.reasons.proofs.Reasons.{reasons-are, one-list, entries-are}
@@ -86,7 +86,7 @@ module _ (s w : List ℕ) (p : ℕ) (z : refusal s ≡ 0) (A : Lot (tree s) p w)
           let R = A .reasons in
           (relatedUse (R .burned) (R .used), (e, x, R .burned, R .used, A .tracked .2, refl, A .tracked .0, A .tracked .1, R .all-marks, R .all-uses, omega arith))
 
-  points-at : (q : ℕ) → Offence62 t p q → (q ≡ 0) ⊎ ((b : ℕ) × Entry q b w)
+  points-at : (q : ℕ) → Offence62 t p q → (q ≡ 0) ⊎ ((b : ℕ) × HasEntry q b w)
   points-at q o =
       let u = points-at-use t p q o in
       let d = one-row s p (u .0) e (u .1) x z (u .2, u .3, u .4) (A .tracked) in
@@ -94,12 +94,12 @@ module _ (s w : List ℕ) (p : ℕ) (z : refusal s ≡ 0) (A : Lot (tree s) p w)
       ⊎-elim
       (λ (g : Use t (u .0) (u .1) q).
       let i = said-entry (SaysUse t e) (R .used) (R .u) q (λ y a b S. S .its-ident) (R .occurrences) (R .all-uses .complete q (rw (d .0, d .1) at g)) in
-      inr (i .0, subst (Entry q (i .0)) (sym (R .both)) (entry-behind (SaysClause t e) (R .burned) (R .v) (R .u) q (i .0) (R .clauses) (i .1))))
+      inr (i .0, subst (HasEntry q (i .0)) (sym (R .both)) (entry-behind (SaysClause t e) (R .burned) (R .v) (R .u) q (i .0) (R .clauses) (i .1))))
       (λ g. inl (g .0))
       (u .5)
 
-pub promised : Promised
-promised = record {
+pub demand-why : Demand-why
+demand-why = record {
   image = image-refused;
   no-lot = λ s o p z. no-lot s o p z;
   short = λ s o w p z A l. let d = its-words s w p z A in too-short s o p z (A .entry) (A .row) (A .tracked) (rw d at l);
