@@ -1,5 +1,5 @@
--- `demand-why`: `why` answers by the facts, and the reason is the true one.
-use Prim.Native.Nat.{ℕ, suc, _+_, _*_, _<_, _≤_}
+-- `demand-why`, `demand-reason`: `why` answers by the facts, and the reason is the true one.
+use Prim.Native.Nat.{ℕ, suc, _+_, _*_, _≤_}
 use mathlib.Core.Path.{_≡_, refl, ap, ap₂, sym, _∙_, subst}
 use mathlib.Core.List.{List, [], _∷_, List·Memᴰ·head, List·Memᴰ·not-nil}
 use mathlib.Core.Logic.{_⊎_, inl, inr, ⊎-elim, _↔_}
@@ -12,7 +12,7 @@ use Rattle.rules.specs.Linear.{Mark, Use, Offence61, Offence62}
 use Rattle.rules.proofs.Related.{points-at-use}
 use Rattle.reasons.specs.Reasons.{SaysClause, SaysUse}
 use Rattle.reasons.specs.Compute.{reasons}
-use Rattle.reasons.specs.Demands.{Lot, HasEntry, Demand-why}
+use Rattle.reasons.specs.Demands.{Lot, HasEntry, Demand-why, Demand-reason}
 use Rattle.reasons.proofs.Said.{said-entry, entry-behind}
 use Rattle.reasons.proofs.Rows.{one-row, marked-twice}
 use Rattle.reasons.proofs.Reasons.{reasons-are, one-list, entries-are}
@@ -109,6 +109,10 @@ demand-why = record {
   one-list = λ s v w p z A B.
       let d = one-row s p (A .entry) (B .entry) (A .row) (B .row) z (A .tracked) (B .tracked) in
       its-words s v p z A ∙ ap₂ (reasons (tree s)) (d .0) (d .1) ∙ sym (its-words s w p z B);
+}
+
+pub demand-reason : Demand-reason
+demand-reason = record {
   number = λ s w m l p z A M L. long s w p z A m l M L;
   none = unused;
   two = used-twice;

@@ -1,21 +1,17 @@
 -- What is found for a place: the list of its row, and none where it has no row; and so the answer and the buffer.
-use Prim.Native.Nat.{ℕ, _+_, _<_, _≤_}
+use Prim.Native.Nat.{ℕ, _<_, _≤_}
 use mathlib.Core.Path.{_≡_, refl, ap, sym, _∙_}
-use mathlib.Core.Bool.{Bool, true, false}
 use mathlib.Core.List.{List, [], _∷_, List·Memᴰ, List·Memᴰ·head, List·Memᴰ·not-nil, List·Memᴰ·eq-of-singleton}
 use mathlib.Core.Logic.{_⊎_, inl, inr}
 use native.Mathlib.Omega.{arith}
 use borrow.Author.Tests.{eq-eqb, ne-eqb, lt-ltb, le-ltb}
-use lib.Dec.{ltb, eqb}
 use lib.ListN.{length}
 use lib.Seq.{sets}
-use Rattle.image.specs.Pick.{pick}
 use Rattle.image.specs.Admit.{refusal}
 use Rattle.rules.specs.Tree.{Tree, tree, entry, param-let}
-use Rattle.rules.specs.Vocabulary.{Below}
 use Rattle.rules.specs.Linear.{placeOf}
 use Rattle.rules.proofs.Reflect.{Finds, finds-as, finds-nothing, finds-below, finds-keep, tells-eqb}
-use Rattle.rules.proofs.Linear.{RowKind, tells-isRow, row-so, row-kind, row-below}
+use Rattle.rules.proofs.Linear.{tells-isRow, row-so, row-kind, row-below}
 use Rattle.reasons.specs.Reasons.{TrackedAt}
 use Rattle.reasons.specs.Compute.{reasons, reasonsAt}
 use Rattle.reasons.specs.Answer.{whyRefused, whyTold, replyBy, wordsOf, whyAnswer, whyBuffer}

@@ -1,8 +1,7 @@
 -- The list that is computed is the row's: its entries say what the facts ask for, and there is no other such list.
-use Prim.Native.Nat.{ℕ, suc, _+_, _-_, _*_, _<_, _≤_}
+use Prim.Native.Nat.{ℕ, suc, _+_, _-_, _*_, _<_}
 use mathlib.Core.Path.{_≡_, refl, ap, ap₂, sym, _∙_, subst}
-use mathlib.Core.Bool.{Bool, true, not}
-use mathlib.Core.List.{List, [], _∷_, _++_, List·Memᴰ, List·Memᴰ·eq-of-singleton}
+use mathlib.Core.List.{List, _++_, List·Memᴰ}
 use mathlib.Core.Logic.{_⊎_, inl, inr, ⊎-elim}
 use native.Mathlib.Omega.{arith}
 use lib.ListN.{length, length-append}
@@ -10,18 +9,18 @@ use Rattle.image.specs.Admit.{refusal}
 use Rattle.rules.specs.Sweep.{also, has}
 use Rattle.rules.specs.Tree.{Tree, tree, entry, burns, statement, assign, call, ident, peels}
 use Rattle.rules.specs.Words.{readers}
-use Rattle.rules.specs.Vocabulary.{Below, CallIn, Argument, IsFirst, AllOf, Down, Field, firstBelow}
-use Rattle.rules.specs.Model.{Inner, inner}
+use Rattle.rules.specs.Vocabulary.{Below, Argument, IsFirst, AllOf, Down, Field, firstBelow}
+use Rattle.rules.specs.Model.{inner}
 use Rattle.rules.specs.Linear.{Mark, Consumes, Use, marks, uses}
 use Rattle.rules.specs.Standing.{Formed}
-use Rattle.rules.proofs.Reflect.{Tells, tells-as, tells-both, tells-either, tells-not, tells-eqb, tells-ltb, tells-has, tells-also, tells-someBelow, tells-someArgument, tells-isField, tells-atBottom, first-from, first-is, first-at, first-so}
+use Rattle.rules.proofs.Reflect.{Tells, tells-both, tells-either, tells-not, tells-eqb, tells-ltb, tells-has, tells-also, tells-someBelow, tells-someArgument, tells-isField, tells-atBottom, first-from, first-is, first-at, first-so}
 use Rattle.rules.proofs.Model.{tells-inner}
 use Rattle.rules.proofs.Linear.{marks-listed, uses-listed}
 use Rattle.rules.proofs.Unique.{all-unique}
 use Rattle.rules.proofs.Admitted.{admitted}
-use Rattle.rules.proofs.Ranges.{deep, ends-in}
+use Rattle.rules.proofs.Ranges.{ends-in}
 use Rattle.rules.proofs.Consumers.{one-consumer}
-use Rattle.reasons.specs.Reasons.{Gives, SaysClause, SaysUse, Said, Reasons}
+use Rattle.reasons.specs.Reasons.{GivesMark, SaysClause, SaysUse, Reasons}
 use Rattle.reasons.specs.Compute.{clauseOf, takes, consumerOf, each, clauseWords, useWords, reasons}
 use Rattle.reasons.proofs.Said.{said-each, said-long, said-one}
 
@@ -29,7 +28,7 @@ use Rattle.reasons.proofs.Said.{said-each, said-long, said-one}
 
 module _ (t : Tree) (e y : ℕ) where
   -- the first one is in the entry, if one is
-  clause-inside : (c : ℕ) → Gives t e y c → clauseOf t e y < t .end e
+  clause-inside : (c : ℕ) → GivesMark t e y c → clauseOf t e y < t .end e
   unfolding clauseOf firstBelow
   clause-inside c g =
       let a = g .0 .after in
@@ -37,15 +36,15 @@ module _ (t : Tree) (e y : ℕ) where
       let l = first-at (λ i. also (has (t .kind i) burns) (λ d. inner t (t .text (d + 1)) (y + 2)) i) (suc e) (t .end e - suc e) c a (omega arith) (tells-also (λ d. inner t (t .text (d + 1)) (y + 2)) c (tells-has (t .kind c) burns) (tells-inner t (t .text (c + 1)) (y + 2)) .back (g .0 .kind, g .1)) in
       omega arith
 
-  pub clause-first : (c : ℕ) → Gives t e y c → IsFirst (Gives t e y) (clauseOf t e y)
+  pub clause-first : (c : ℕ) → GivesMark t e y c → IsFirst (GivesMark t e y) (clauseOf t e y)
   unfolding clauseOf
   clause-first c g = first-so t burns e (λ d. tells-inner t (t .text (d + 1)) (y + 2)) (clause-inside c g)
 
-  pub says-clause : (c : ℕ) → Gives t e y c → SaysClause t e y (clauseOf t e y + 1) 0
+  pub says-clause : (c : ℕ) → GivesMark t e y c → SaysClause t e y (clauseOf t e y + 1) 0
   says-clause c g = record { clause = clauseOf t e y; is-first = clause-first c g; its-name = refl; nothing = refl }
 
   -- the first that gives the mark is one node
-  pub one-first : (c d : ℕ) → IsFirst (Gives t e y) c → IsFirst (Gives t e y) d → c ≡ d
+  pub one-first : (c d : ℕ) → IsFirst (GivesMark t e y) c → IsFirst (GivesMark t e y) d → c ≡ d
   one-first c d C D = let l : c < d → ⊥ = λ h. D .none c h (C .is) in let m : d < c → ⊥ = λ h. C .none d h (D .is) in omega (arith, l, m)
 
   one-clause : (a b c d : ℕ) → SaysClause t e y a b → SaysClause t e y c d → (a ≡ c) × (b ≡ d)

@@ -1,17 +1,14 @@
 -- The row that a place asks about: there is one at most. A row with two marks has no occurrence.
 use Prim.Native.Nat.{ℕ, _+_, _<_, _≤_}
-use mathlib.Core.Path.{_≡_, refl, ap, sym, _∙_}
-use mathlib.Core.Bool.{true}
+use mathlib.Core.Path.{_≡_, refl, ap, _∙_}
 use mathlib.Core.List.{List, [], _∷_, List·Memᴰ·head, List·Memᴰ·tail, List·Memᴰ·eq-of-singleton}
-use mathlib.Core.Logic.{_⊎_, inl, inr, ⊎-elim}
+use mathlib.Core.Logic.{inl, ⊎-elim}
 use native.Mathlib.Omega.{arith}
 use borrow.Author.Tests.{eq-eqb, ne-eqb}
-use lib.Dec.{eqb}
 use lib.ListN.{length}
-use Rattle.image.specs.Pick.{pick}
 use Rattle.image.specs.Admit.{refusal}
 use Rattle.image.proofs.Decide.{lt-or-ge}
-use Rattle.rules.specs.Tree.{Tree, tree, entry, param-let}
+use Rattle.rules.specs.Tree.{Tree, tree, entry}
 use Rattle.rules.specs.Vocabulary.{Below, AllOf}
 use Rattle.rules.specs.Linear.{Row, Mark, Use, placeOf}
 use Rattle.rules.specs.Standing.{Formed}

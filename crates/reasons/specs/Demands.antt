@@ -1,5 +1,5 @@
--- What is promised of `why`, on one page: by which facts it answers, and that the reason is the true one. Proved in proofs/Demands, as
--- `demand-why`. The bytes s of an image, the place p and the words o of a buffer are any.
+-- What is promised of `why` (E3 of document 02), on one page: by which facts it answers, and that the reason is the true one. Proved in
+-- proofs/Demands, as `demand-why` and `demand-reason`. The bytes s of an image, the place p and the words o of a buffer are any.
 use Prim.Native.Nat.{ℕ, _+_, _*_, _<_, _≤_}
 use mathlib.Core.Path.{_≡_}
 use mathlib.Core.List.{List, [], _∷_}
@@ -35,32 +35,33 @@ HasEntry a b (c ∷ d ∷ w) = ((a ≡ c) × (b ≡ d)) ⊎ HasEntry a b w
 abbrev pub TellsNothing : List ℕ → ℕ → List ℕ → ℕ → Type 0
 TellsNothing s p o r = (whyAnswer s p (length o) ≡ whyRefused r) × (whyBuffer s p o ≡ o)
 
+-- What is answered. "Refusals: 1 to 8, 13 when the place is no tracked asset, 10 for a short buffer, in that order", with nothing
+-- written; else the words of the lot's reasons are there, and past them nothing changes. One of these holds and only one: a place has
+-- one row at most, and a row one list of words.
 pub record Demand-why : Type 0 where
-  -- "Refusals: 1 to 8, 13 when the place is no tracked asset, 10 for a short buffer, in that order"; else the words are there, and past
-  -- them nothing changes
   pub image : (s o : List ℕ) (p : ℕ) → IsRefused s → TellsNothing s p o (refusal s)
   pub no-lot : (s o : List ℕ) (p : ℕ) → IsAdmitted s → NoLot (tree s) p → TellsNothing s p o 13
   pub short : (s o w : List ℕ) (p : ℕ) → IsAdmitted s → Lot (tree s) p w → length o < length w → TellsNothing s p o 10
   pub whole :
       (s o w : List ℕ) (p : ℕ) → IsAdmitted s → Lot (tree s) p w → length w ≤ length o
       → (whyAnswer s p (length o) ≡ whyTold (length w)) × (whyBuffer s p o ≡ sets o 0 w)
-  -- one of these holds, and only one: a place has one row at most, and a row one list of words
   pub decided : (s : List ℕ) (p : ℕ) → IsAdmitted s → NoLot (tree s) p ⊎ ((w : List ℕ) × Lot (tree s) p w)
   pub one-row :
       (s : List ℕ) (p e f x y : ℕ) → IsAdmitted s → TrackedAt (tree s) p e x → TrackedAt (tree s) p f y → (e ≡ f) × (x ≡ y)
   pub one-list : (s v w : List ℕ) (p : ℕ) → IsAdmitted s → Lot (tree s) p v → Lot (tree s) p w → v ≡ w
-  -- "the reason is the true one: the number of entries equals the row's marks plus occurrences"
+
+-- "It is proved that the reason is the true one: the number of entries equals the row's marks plus occurrences, so 61 has none and 62
+-- at least two": an entry is two words. 62's related word (E4) is the Ident of one of them, or 0. A row with two marks has no
+-- occurrence: marks go to the first row of a name, occurrences to the last.
+pub record Demand-reason : Type 0 where
   pub number :
       (s w m l : List ℕ) (p : ℕ) → IsAdmitted s → (a : Lot (tree s) p w) → AllOf (Mark (tree s) (a .entry) (a .row)) m
       → AllOf (Use (tree s) (a .entry) (a .row)) l → length w ≡ 2 * (length m + length l)
-  -- "so 61 has none and 62 at least two": two words each
   pub none : (s w : List ℕ) (p : ℕ) → IsAdmitted s → Lot (tree s) p w → Offence61 (tree s) p 0 ↔ (w ≡ [])
   pub two :
       (s w : List ℕ) (p : ℕ) → IsAdmitted s → Lot (tree s) p w → ((q : ℕ) × Offence62 (tree s) p q) ↔ (2 * 2 ≤ length w)
-  -- 62's related word (E4) is one of them, or 0
   pub related :
       (s w : List ℕ) (p q : ℕ) → IsAdmitted s → Lot (tree s) p w → Offence62 (tree s) p q → (q ≡ 0) ⊎ ((b : ℕ) × HasEntry q b w)
-  -- a row with two marks has no occurrence: marks go to the first row of a name, occurrences to the last
   pub marked-twice :
       (s m : List ℕ) (p e x i : ℕ) → IsAdmitted s → TrackedAt (tree s) p e x → AllOf (Mark (tree s) e x) m → 1 < length m
       → Use (tree s) e x i → ⊥

@@ -15,13 +15,13 @@ TrackedAt t p e x = Below t entry (t .root) e × Row t e x × (p ≡ placeOf t x
 -- What an entry says
 
 -- the Burns clause c gives the mark of the parameter y
-abbrev pub Gives : Tree → ℕ → ℕ → ℕ → Type 0
-Gives t e y c = Below t burns e c × Inner t (t .text (theName t c)) (typeOf t y)
+abbrev pub GivesMark : Tree → ℕ → ℕ → ℕ → Type 0
+GivesMark t e y c = Below t burns e c × Inner t (t .text (theName t c)) (typeOf t y)
 
 -- of the mark of the parameter y: "the Name of the first Burns clause that gives the mark", and 0
 pub record SaysClause (t : Tree) (e y a b : ℕ) : Type 0 where
   pub clause : ℕ
-  pub is-first : IsFirst (Gives t e y) clause
+  pub is-first : IsFirst (GivesMark t e y) clause
   pub its-name : a ≡ theName t clause
   pub nothing : b ≡ 0
 

@@ -4,16 +4,13 @@ use mathlib.Core.Path.{_≡_, refl, ap, _∙_, sym}
 use mathlib.Core.Bool.{Bool}
 use mathlib.Core.List.{List}
 use native.Mathlib.Omega.{arith}
-use borrow.Author.Tests.{eq-eqb, ne-eqb, lt-ltb, le-ltb}
-use lib.Dec.{eqb, ltb}
-use lib.ListN.{length, getD}
-use lib.Seq.{sets}
+use borrow.Author.Tests.{ne-eqb}
+use lib.ListN.{length}
 use Rattle.image.specs.Admit.{refusal, admissionOf}
 use Rattle.image.specs.declared.Admission.the-variants as admission
 use Rattle.image.proofs.Verdict.{refused-is}
-use Rattle.rules.specs.Tree.{Tree, tree, entry}
+use Rattle.rules.specs.Tree.{Tree, tree}
 use Rattle.rules.specs.Words.{Q-Asset}
-use Rattle.rules.specs.Vocabulary.{Below}
 use Rattle.rules.specs.Linear.{placeOf}
 use Rattle.rules.proofs.Linear.{tells-isRow, row-so, row-kind, row-below}
 use Rattle.nodes.specs.Shown.{View, treeOf}

@@ -1,8 +1,8 @@
 -- The entry that holds a place: the test of an item, and that no item before the one at hand is it.
-use Prim.Native.Nat.{ℕ, _+_, _<_, _≤_}
+use Prim.Native.Nat.{ℕ, _<_, _≤_}
 use mathlib.Core.Path.{_≡_, refl, ap, _∙_, sym}
 use mathlib.Core.Bool.{Bool, true, false, true≢false}
-use mathlib.Core.List.{List, [], _∷_, List·Memᴰ·head, List·Memᴰ·eq-of-singleton}
+use mathlib.Core.List.{List, List·Memᴰ·head, List·Memᴰ·eq-of-singleton}
 use mathlib.Core.Logic.{⊎-elim}
 use native.Mathlib.Omega.{arith}
 use lib.Dec.{ltb, eqb}
@@ -13,9 +13,6 @@ use Rattle.rules.specs.Tree.{Tree, entry}
 use Rattle.rules.specs.Vocabulary.{Below}
 use Rattle.rules.proofs.Reflect.{Tells, tells-both, tells-eqb, tells-ltb, tells-has}
 use Rattle.nodes.specs.Shown.{View, In, treeOf}
-use Rattle.nodes.specs.declared.Cursor.{Cursor}
-use Rattle.nodes.specs.declared.Step.{Step}
-use Rattle.nodes.specs.Cursors.{Stepped}
 use Rattle.nodes.proofs.Shapes.{allIn, skips-items}
 use Rattle.why.specs.Told.{EntryAt}
 

@@ -1,24 +1,22 @@
 -- The mark of a parameter: which clause gives it, and whether it is one of the row's; and those that a walk over the head of an entry tells.
-use Prim.Native.Nat.{ℕ, suc, _+_, _-_, _<_, _≤_}
-use mathlib.Core.Path.{_≡_, refl, ap, _∙_, sym, subst}
-use mathlib.Core.Bool.{Bool, true, false, true≢false}
+use Prim.Native.Nat.{ℕ, suc, _+_, _-_, _<_}
+use mathlib.Core.Path.{_≡_, refl, ap, _∙_, sym}
+use mathlib.Core.Bool.{Bool, true, false}
 use mathlib.Core.List.{List, []}
 use mathlib.Core.Logic.{⊎-elim}
 use native.Mathlib.Omega.{arith}
 use borrow.Author.Tests.{eq-eqb, ne-eqb}
-use lib.Dec.{eqb}
 use Rattle.image.specs.Pick.{pick}
 use Rattle.image.proofs.Decide.{eq-or-ne}
-use Rattle.rules.specs.Sweep.{run, keep, has}
-use Rattle.rules.specs.Tree.{Tree, burns, param}
+use Rattle.rules.specs.Sweep.{run, keep}
+use Rattle.rules.specs.Tree.{Tree, burns}
 use Rattle.rules.specs.Vocabulary.{alone, below, IsFirst, Named}
-use Rattle.rules.specs.Model.{inner}
 use Rattle.rules.specs.Linear.{isBurned}
 use Rattle.rules.proofs.Reflect.{tells-same}
 use Rattle.rules.proofs.Model.{tells-inner}
 use Rattle.rules.proofs.Linear.{tells-isBurned}
 use Rattle.records.proofs.Sweep.{run-sooner, has-one, has-not, keep-none, keep-one}
-use Rattle.nodes.specs.Shown.{View, treeOf}
+use Rattle.nodes.specs.Shown.{treeOf}
 use Rattle.nodes.specs.First.{Until}
 use Rattle.nodes.proofs.Fall.{not-so}
 use Rattle.nodes.proofs.Parts.{past, few}
@@ -29,7 +27,7 @@ use Rattle.model.specs.Assets.{Assets, Inside}
 use Rattle.model.proofs.Inner.{inner-one}
 use Rattle.linear_uses.specs.Uses.{onRow, burnAt, burnsOn}
 use Rattle.linear_uses.proofs.Burns.{burned-none}
-use Rattle.reasons.specs.Reasons.{Gives}
+use Rattle.reasons.specs.Reasons.{GivesMark}
 use Rattle.reasons.specs.Compute.{clauseOf, clauseWords, each}
 use Rattle.reasons.proofs.Reasons.{clause-first, one-first}
 use Rattle.why.specs.Told.{Clauses, Marking}
@@ -47,7 +45,7 @@ module _ (t : Tree) (e y : ℕ) where
   unburned : isBurned t e y ≡ false → clauseOr t e y ≡ 0
   unburned b = ap (λ (c : Bool). pick c (clauseOf t e y) 0) b
 
-  its-clause : isBurned t e y ≡ true → IsFirst (Gives t e y) (clauseOf t e y)
+  its-clause : isBurned t e y ≡ true → IsFirst (GivesMark t e y) (clauseOf t e y)
   its-clause b = let c = tells-isBurned t e y .so b in clause-first t e y (c .0) (c .1, c .2)
 
   -- 0 says that it is not burned, and any other number is the clause
@@ -67,10 +65,10 @@ module _ {nodes : List ℕ} {e asset r : ℕ} {clauses : List ℕ} (T : Clauses 
   no-clause z = sym (unburned t e y (burned-none (assets-of T) e y k I z))
 
   module _ (l : 0 < r) where
-    named-gives : (c : ℕ) → Named t burns e (t .text r) c → Gives t e y c
+    named-gives : (c : ℕ) → Named t burns e (t .text r) c → GivesMark t e y c
     named-gives c N = (N .0, tells-inner t (t .text (c + 1)) (y + 2) .so (inner-one (assets-of T) k I (t .text (c + 1)) l ∙ tells-same (t .text r) (t .text (c + 1)) .back (sym (N .1))))
 
-    gives-named : (c : ℕ) → Gives t e y c → Named t burns e (t .text r) c
+    gives-named : (c : ℕ) → GivesMark t e y c → Named t burns e (t .text r) c
     gives-named c G = (G .0, sym (tells-same (t .text r) (t .text (c + 1)) .so (sym (inner-one (assets-of T) k I (t .text (c + 1)) l) ∙ tells-inner t (t .text (c + 1)) (y + 2) .back (G .1))))
 
     pub clause-is : firstOf t burns e (t .text r) ≡ clauseOr t e y
@@ -79,7 +77,7 @@ module _ {nodes : List ℕ} {e asset r : ℕ} {clauses : List ℕ} (T : Clauses 
         (λ (z : firstOf t burns e (t .text r) ≡ 0). z ∙ sym (unburned t e y (not-so _ (λ b. let c = tells-isBurned t e y .so b in first-absent t burns e (t .text r) z (c .0) (gives-named (c .0) (c .1, c .2))))))
         (λ (n : firstOf t burns e (t .text r) ≡ 0 → ⊥).
         let F = first-is t burns e (t .text r) (omega (arith, n)) in
-        let G : IsFirst (Gives t e y) (firstOf t burns e (t .text r)) = record { is = named-gives _ (F .is); none = λ j h g. F .none j h (gives-named j g) } in
+        let G : IsFirst (GivesMark t e y) (firstOf t burns e (t .text r)) = record { is = named-gives _ (F .is); none = λ j h g. F .none j h (gives-named j g) } in
         let b = tells-isBurned t e y .back (_, G .is .0, G .is .1) in
         one-first t e y _ _ G (its-clause t e y b) ∙ ap (λ (c : Bool). pick c (clauseOf t e y) 0) (sym b))
         (eq-or-ne (firstOf t burns e (t .text r)) 0)

@@ -5,7 +5,7 @@ use mathlib.Core.Bool.{Bool, true, false}
 use mathlib.Core.List.{List, [], _∷_, append-nil}
 use native.Mathlib.Omega.{arith}
 use lib.Dec.{eqb}
-use Rattle.rules.specs.Sweep.{also, has, keep}
+use Rattle.rules.specs.Sweep.{has, keep}
 use Rattle.rules.specs.Tree.{Tree, ident}
 use Rattle.rules.specs.Vocabulary.{alone}
 use Rattle.rules.specs.Linear.{Consumes, isCounted}
@@ -21,7 +21,6 @@ use Rattle.linear_uses.proofs.Uses.{keep-also}
 use Rattle.reasons.specs.Compute.{consumerOf, useWords, each}
 use Rattle.reasons.proofs.Reasons.{consumer-is}
 use Rattle.why.specs.Told.{foundWords}
-use Rattle.why.proofs.Words.{each-none}
 
 -- the words of a node that a test keeps
 each-keep : (f : ℕ → List ℕ) (b : Bool) (x : ℕ) → each f (keep b alone x) ≡ keep b f x

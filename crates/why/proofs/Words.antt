@@ -1,12 +1,11 @@
 -- Laws of words that are told: nothing, one list after another; and of a list that has some words for each node.
 use Prim.Native.Nat.{ℕ, zero, suc, _+_}
 use mathlib.Core.Path.{_≡_, refl, ap, _∙_, sym}
-use mathlib.Core.Bool.{Bool, true, false}
 use mathlib.Core.List.{List, [], _∷_, _++_, append-nil, append-assoc}
 use native.Mathlib.Omega.{arith}
 use lib.ListN.{length, length-append}
 use lib.Seq.{length-sets}
-use Rattle.rules.specs.Sweep.{run, keep}
+use Rattle.rules.specs.Sweep.{run}
 use Rattle.rules.specs.Vocabulary.{alone}
 use Rattle.records.proofs.Laws.{sets-append}
 use Rattle.records.proofs.Sweep.{Follows}

@@ -2,7 +2,6 @@
 use borrow.Author.Needs.{needs}
 use native.Mathlib.Omega.{arith}
 use Prim.Native.Nat.{ℕ, _<_}
-use Prim.Native.Nat.{_<_}
 use lib.ListN.{replicate, length-replicate}
 use Rattle.nodes.proofs.Names.{marks-none}
 use Rattle.places.proofs.Noting.{places-none}

@@ -4,9 +4,6 @@ use native.Mathlib.Omega.{arith}
 use Prim.Native.Nat.{_<_}
 use mathlib.Core.Path.{_∙_}
 use mathlib.Core.Logic.{inl}
-use mathlib.Core.Path.{_∙_}
-use mathlib.Core.Logic.{inl}
-use Prim.Native.Nat.{_<_}
 use Rattle.linear_parts.proofs.Parts.{param-type}
 use Rattle.why.proofs.Marks.{assets-of, no-clause, clause-is, clause-few}
 use Rattle.why.proofs.clause_of.Statement.{statement}

@@ -1,7 +1,6 @@
 -- `holds` meets its contract: the three tests in turn.
 use borrow.Author.Needs.{needs}
 use mathlib.Core.Path.{sym, _∙_}
-use mathlib.Core.Path.{_∙_, sym}
 use borrow.Author.Tests.{eq-eqb, ne-eqb, lt-ltb, le-ltb}
 use Rattle.why.proofs.holds.Statement.{statement}
 use Rattle.why.proofs.holds.Tie as tie

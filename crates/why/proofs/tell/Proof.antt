@@ -3,7 +3,6 @@ use borrow.Author.Needs.{needs}
 use native.Mathlib.Omega.{arith}
 use mathlib.Core.Path.{refl}
 use native.Mathlib.Numerals.{add-one}
-use mathlib.Core.Path.{refl}
 use Rattle.why.proofs.tell.Statement.{statement}
 use Rattle.why.proofs.tell.Tie as tie
 

@@ -3,9 +3,6 @@ use borrow.Author.Needs.{needs}
 use native.Mathlib.Omega.{arith}
 use Prim.Native.Nat.{_+_, _-_}
 use mathlib.Core.Path.{refl}
-use native.Mathlib.Omega.{arith}
-use Prim.Native.Nat.{_+_, _-_}
-use mathlib.Core.Path.{refl}
 use Rattle.rules.specs.Sweep.{has}
 use Rattle.records.proofs.Sweep.{Sweeps, sweeps-start, sweeps-on, sweeps-done, keep-none}
 use Rattle.nodes.specs.Shown.{treeOf}

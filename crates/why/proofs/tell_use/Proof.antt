@@ -2,7 +2,6 @@
 use borrow.Author.Needs.{needs}
 use native.Mathlib.Omega.{arith}
 use mathlib.Core.Path.{sym, _∙_}
-use mathlib.Core.Path.{sym, _∙_}
 use borrow.Author.Tests.{eq-eqb, ne-eqb}
 use Rattle.records.proofs.Sweep.{keep-none, keep-one}
 use Rattle.why.proofs.Words.{wrote-none, wrote-as, told-nothing}

@@ -3,9 +3,6 @@ use borrow.Author.Needs.{needs}
 use native.Mathlib.Omega.{arith}
 use Prim.Native.Nat.{ℕ, _-_}
 use mathlib.Core.Path.{sym, ap, _∙_}
-use native.Mathlib.Omega.{arith}
-use Prim.Native.Nat.{ℕ, _-_}
-use mathlib.Core.Path.{sym, ap, _∙_}
 use Rattle.rules.specs.Sweep.{run}
 use Rattle.records.proofs.Sweep.{Sweeps, sweeps-start, sweeps-again, sweeps-done}
 use Rattle.nodes.specs.Shown.{In, treeOf}
