@@ -51,10 +51,11 @@
  * Bytes of stack that are enough for any call, with room to spare. Measured of every function by
  * painting a stack and looking how far down a call had written, over the images at every limit of
  * document 01, its patterns, the benchmark's contracts and 20,000 generated images. On x86-64 the most
- * are 35,688 bytes, by isonkaypu_verdicts (the crates of commit 360cd1f). The first call of a program
- * that binds `memset` lazily takes more, since the dynamic linker works on the same stack: 38,664, of
- * one image (samples/ward.image). On aarch64 38,864 were measured, in an earlier build. No function
- * calls itself and the frames are of fixed size, so the need does not grow with the image.
+ * are 35,688 bytes, by isonkaypu_verdicts (the crates of commit 360cd1f); isonkaypu_why, which came
+ * later, takes under 15,000. The first call of a program that binds `memset` lazily takes more, since
+ * the dynamic linker works on the same stack: 38,664, of one image (samples/ward.image). On aarch64
+ * 38,864 were measured, in an earlier build. No function calls itself and the frames are of fixed
+ * size, so the need does not grow with the image.
  */
 #define ISONKAYPU_STACK 65536
 

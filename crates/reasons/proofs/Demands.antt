@@ -5,7 +5,7 @@ use mathlib.Core.List.{List, [], _∷_, List·Memᴰ·head, List·Memᴰ·not-ni
 use mathlib.Core.Logic.{_⊎_, inl, inr, ⊎-elim, _↔_}
 use native.Mathlib.Omega.{arith}
 use lib.ListN.{length}
-use Rattle.image.specs.Admit.{refusal}
+use Rattle.image.specs.Admit.{refusal, nodeCount}
 use Rattle.rules.specs.Tree.{Tree, tree}
 use Rattle.rules.specs.Vocabulary.{AllOf, relatedUse}
 use Rattle.rules.specs.Linear.{Mark, Use, Offence61, Offence62}
@@ -14,7 +14,7 @@ use Rattle.reasons.specs.Reasons.{SaysClause, SaysUse}
 use Rattle.reasons.specs.Compute.{reasons}
 use Rattle.reasons.specs.Demands.{Lot, HasEntry, Demand-why, Demand-reason}
 use Rattle.reasons.proofs.Said.{said-entry, entry-behind}
-use Rattle.reasons.proofs.Rows.{one-row, marked-twice}
+use Rattle.reasons.proofs.Rows.{a-node, one-row, marked-twice}
 use Rattle.reasons.proofs.Reasons.{reasons-are, one-list, entries-are}
 use Rattle.reasons.proofs.Found.{row-or-none, image-refused, no-lot, too-short, all-told}
 
@@ -105,6 +105,7 @@ demand-why = record {
   short = λ s o w p z A l. let d = its-words s w p z A in too-short s o p z (A .entry) (A .row) (A .tracked) (rw d at l);
   whole = λ s o w p z A l. let d = its-words s w p z A in rw d (all-told s o p z (A .entry) (A .row) (A .tracked) (rw d at l));
   decided = λ s p z. ⊎-elim inl (λ f. inr (reasons (tree s) (f .0) (f .1), record { entry = f .0; row = f .1; tracked = f .2; reasons = reasons-are s z (f .0) (f .1) (f .2 .0) })) (row-or-none (tree s) p);
+  outside = λ s p z q e x r. let n = a-node s p e x z r in let l = n .0 in let h = n .1 in ⊎-elim (λ (d : p ≡ 0). omega arith) (λ (d : nodeCount s ≤ p). omega arith) q;
   one-row = λ s p e f x y z. one-row s p e f x y z;
   one-list = λ s v w p z A B.
       let d = one-row s p (A .entry) (B .entry) (A .row) (B .row) z (A .tracked) (B .tracked) in

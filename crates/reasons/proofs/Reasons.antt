@@ -11,7 +11,7 @@ use Rattle.rules.specs.Tree.{Tree, tree, entry, burns, statement, assign, call,
 use Rattle.rules.specs.Words.{readers}
 use Rattle.rules.specs.Vocabulary.{Below, Argument, IsFirst, AllOf, Down, Field, firstBelow}
 use Rattle.rules.specs.Model.{inner}
-use Rattle.rules.specs.Linear.{Mark, Consumes, Use, marks, uses}
+use Rattle.rules.specs.Linear.{GivesMark, Mark, Consumes, Use, marks, uses}
 use Rattle.rules.specs.Standing.{Formed}
 use Rattle.rules.proofs.Reflect.{Tells, tells-both, tells-either, tells-not, tells-eqb, tells-ltb, tells-has, tells-also, tells-someBelow, tells-someArgument, tells-isField, tells-atBottom, first-from, first-is, first-at, first-so}
 use Rattle.rules.proofs.Model.{tells-inner}
@@ -20,7 +20,7 @@ use Rattle.rules.proofs.Unique.{all-unique}
 use Rattle.rules.proofs.Admitted.{admitted}
 use Rattle.rules.proofs.Ranges.{ends-in}
 use Rattle.rules.proofs.Consumers.{one-consumer}
-use Rattle.reasons.specs.Reasons.{GivesMark, SaysClause, SaysUse, Reasons}
+use Rattle.reasons.specs.Reasons.{SaysClause, SaysUse, Reasons}
 use Rattle.reasons.specs.Compute.{clauseOf, takes, consumerOf, each, clauseWords, useWords, reasons}
 use Rattle.reasons.proofs.Said.{said-each, said-long, said-one}
 
@@ -124,7 +124,7 @@ module _ (s : List ℕ) (z : refusal s ≡ 0) (e x : ℕ) (E : Below (tree s) en
     u = each (useWords t e) (uses t e x);
     all-marks = marks-listed t e x;
     all-uses = uses-listed t e x;
-    clauses = said-each (SaysClause t e) (λ y. clauseOf t e y + 1) (λ y. 0) (marks t e x) (λ y m. let M = marks-listed t e x .sound y m in says-clause t e y (M .0 .1 .0) (M .0 .1 .1, M .0 .1 .2));
+    clauses = said-each (SaysClause t e) (λ y. clauseOf t e y + 1) (λ y. 0) (marks t e x) (λ y m. let M = marks-listed t e x .sound y m in says-clause t e y (M .0 .1 .0) (M .0 .1 .1));
     occurrences = said-each (SaysUse t e) (λ i. i) (consumerOf t e) (uses t e x) (λ i m.
         let U = uses-listed t e x .sound i m in
         record { its-ident = refl; its-consumer = consumer-is t e i (admitted s z) E (U .0 .0) (U .0 .1) });

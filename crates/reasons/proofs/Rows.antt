@@ -6,15 +6,16 @@ use mathlib.Core.Logic.{inl, ⊎-elim}
 use native.Mathlib.Omega.{arith}
 use borrow.Author.Tests.{eq-eqb, ne-eqb}
 use lib.ListN.{length}
-use Rattle.image.specs.Admit.{refusal}
+use Rattle.image.specs.Admit.{refusal, nodeCount}
 use Rattle.image.proofs.Decide.{lt-or-ge}
+use Rattle.image.proofs.Given.{given}
 use Rattle.rules.specs.Tree.{Tree, tree, entry}
 use Rattle.rules.specs.Vocabulary.{Below, AllOf}
 use Rattle.rules.specs.Linear.{Row, Mark, Use, placeOf}
 use Rattle.rules.specs.Standing.{Formed}
 use Rattle.rules.proofs.Admitted.{admitted}
 use Rattle.rules.proofs.Linear.{row-below}
-use Rattle.rules.proofs.Ranges.{deep, ends-in, items-follow, parts-follow}
+use Rattle.rules.proofs.Ranges.{deep, ends-in, item-ends, items-follow, parts-follow}
 use Rattle.reasons.specs.Reasons.{TrackedAt}
 
 module _ (t : Tree) where
@@ -82,6 +83,15 @@ module _ (s : List ℕ) (p e x : ℕ) (z : refusal s ≡ 0) (a : TrackedAt (tree
   pub holds-place : (e < p) × (p < tree s .end e)
   holds-place = let u = at (tree s) (admitted s z) p e x a in let f = u .after in let g = u .from in (omega arith, u .inside)
 
+  -- so it is a node, and not the contract
+  pub a-node : (0 < p) × (p < nodeCount s)
+  a-node =
+      let m = holds-place .0 in
+      let n = holds-place .1 in
+      let r = given s z .nodes .root-end in
+      let l = item-ends (tree s) (admitted s z) (a .0) in
+      (omega arith, omega arith)
+
   pub held-by : (f : ℕ) → Below (tree s) entry 0 f → f < p → p < tree s .end f → e ≡ f
   held-by f F h k =
       let m = holds-place .0 in
@@ -114,4 +124,4 @@ marked-twice t (y ∷ z ∷ m) e x i a l u =
     ⊎-elim (λ (b : y < x). Y .2 y b (row y Y) (Y .1)) (λ (b : x ≤ y). u .2 z (omega arith) (row z Z) (Z .1)) (lt-or-ge y x)
   where
     row : (v : ℕ) → Mark t e x v → Row t e v
-    row v M = let q : v + 3 ≡ v + 2 + 1 = omega arith in inl (M .0 .0, ap (t .text) q ∙ M .0 .1 .2 .is-asset)
+    row v M = let q : v + 3 ≡ v + 2 + 1 = omega arith in inl (M .0 .0, ap (t .text) q ∙ M .0 .1 .1 .1 .is-asset)

@@ -6,7 +6,7 @@ use mathlib.Core.List.{List, [], _∷_}
 use mathlib.Core.Logic.{_⊎_, _↔_}
 use lib.ListN.{length}
 use lib.Seq.{sets}
-use Rattle.image.specs.Admit.{refusal}
+use Rattle.image.specs.Admit.{refusal, nodeCount}
 use Rattle.rules.specs.Tree.{Tree, tree}
 use Rattle.rules.specs.Vocabulary.{AllOf}
 use Rattle.rules.specs.Linear.{Mark, Use, Offence61, Offence62}
@@ -37,7 +37,7 @@ TellsNothing s p o r = (whyAnswer s p (length o) ≡ whyRefused r) × (whyBuffer
 
 -- What is answered. "Refusals: 1 to 8, 13 when the place is no tracked asset, 10 for a short buffer, in that order", with nothing
 -- written; else the words of the lot's reasons are there, and past them nothing changes. One of these holds and only one: a place has
--- one row at most, and a row one list of words.
+-- one row at most, and a row one list of words. Neither node 0 nor a number past the nodes is the place of a lot.
 pub record Demand-why : Type 0 where
   pub image : (s o : List ℕ) (p : ℕ) → IsRefused s → TellsNothing s p o (refusal s)
   pub no-lot : (s o : List ℕ) (p : ℕ) → IsAdmitted s → NoLot (tree s) p → TellsNothing s p o 13
@@ -46,6 +46,7 @@ pub record Demand-why : Type 0 where
       (s o w : List ℕ) (p : ℕ) → IsAdmitted s → Lot (tree s) p w → length w ≤ length o
       → (whyAnswer s p (length o) ≡ whyTold (length w)) × (whyBuffer s p o ≡ sets o 0 w)
   pub decided : (s : List ℕ) (p : ℕ) → IsAdmitted s → NoLot (tree s) p ⊎ ((w : List ℕ) × Lot (tree s) p w)
+  pub outside : (s : List ℕ) (p : ℕ) → IsAdmitted s → (p ≡ 0) ⊎ (nodeCount s ≤ p) → NoLot (tree s) p
   pub one-row :
       (s : List ℕ) (p e f x y : ℕ) → IsAdmitted s → TrackedAt (tree s) p e x → TrackedAt (tree s) p f y → (e ≡ f) × (x ≡ y)
   pub one-list : (s v w : List ℕ) (p : ℕ) → IsAdmitted s → Lot (tree s) p v → Lot (tree s) p w → v ≡ w

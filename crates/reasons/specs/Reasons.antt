@@ -3,20 +3,15 @@
 use Prim.Native.Nat.{ℕ}
 use mathlib.Core.Path.{_≡_}
 use mathlib.Core.List.{List, [], _∷_, _++_}
-use Rattle.rules.specs.Tree.{Tree, theName, typeOf, entry, burns}
+use Rattle.rules.specs.Tree.{Tree, theName, entry}
 use Rattle.rules.specs.Vocabulary.{Below, IsFirst, AllOf}
-use Rattle.rules.specs.Model.{Inner}
-use Rattle.rules.specs.Linear.{Row, Mark, Consumes, Use, placeOf}
+use Rattle.rules.specs.Linear.{Row, GivesMark, Mark, Consumes, Use, placeOf}
 
 -- "the place of a tracked asset": p is that of the row x of the entry e
 abbrev pub TrackedAt : Tree → ℕ → ℕ → ℕ → Type 0
 TrackedAt t p e x = Below t entry (t .root) e × Row t e x × (p ≡ placeOf t x)
 
 -- What an entry says
-
--- the Burns clause c gives the mark of the parameter y
-abbrev pub GivesMark : Tree → ℕ → ℕ → ℕ → Type 0
-GivesMark t e y c = Below t burns e c × Inner t (t .text (theName t c)) (typeOf t y)
 
 -- of the mark of the parameter y: "the Name of the first Burns clause that gives the mark", and 0
 pub record SaysClause (t : Tree) (e y a b : ℕ) : Type 0 where

@@ -11,7 +11,7 @@ use Rattle.image.proofs.Decide.{eq-or-ne}
 use Rattle.rules.specs.Sweep.{run, keep}
 use Rattle.rules.specs.Tree.{Tree, burns}
 use Rattle.rules.specs.Vocabulary.{alone, below, IsFirst, Named}
-use Rattle.rules.specs.Linear.{isBurned}
+use Rattle.rules.specs.Linear.{GivesMark, isBurned}
 use Rattle.rules.proofs.Reflect.{tells-same}
 use Rattle.rules.proofs.Model.{tells-inner}
 use Rattle.rules.proofs.Linear.{tells-isBurned}
@@ -27,7 +27,6 @@ use Rattle.model.specs.Assets.{Assets, Inside}
 use Rattle.model.proofs.Inner.{inner-one}
 use Rattle.linear_uses.specs.Uses.{onRow, burnAt, burnsOn}
 use Rattle.linear_uses.proofs.Burns.{burned-none}
-use Rattle.reasons.specs.Reasons.{GivesMark}
 use Rattle.reasons.specs.Compute.{clauseOf, clauseWords, each}
 use Rattle.reasons.proofs.Reasons.{clause-first, one-first}
 use Rattle.why.specs.Told.{Clauses, Marking}
@@ -46,7 +45,7 @@ module _ (t : Tree) (e y : ℕ) where
   unburned b = ap (λ (c : Bool). pick c (clauseOf t e y) 0) b
 
   its-clause : isBurned t e y ≡ true → IsFirst (GivesMark t e y) (clauseOf t e y)
-  its-clause b = let c = tells-isBurned t e y .so b in clause-first t e y (c .0) (c .1, c .2)
+  its-clause b = let c = tells-isBurned t e y .so b in clause-first t e y (c .0) (c .1)
 
   -- 0 says that it is not burned, and any other number is the clause
   pub clause-told : {r : ℕ} → r ≡ clauseOr t e y → (r ≡ 0 → isBurned t e y ≡ false) × ((r ≡ 0 → ⊥) → (isBurned t e y ≡ true) × (r ≡ clauseOf t e y))
@@ -74,11 +73,11 @@ module _ {nodes : List ℕ} {e asset r : ℕ} {clauses : List ℕ} (T : Clauses 
     pub clause-is : firstOf t burns e (t .text r) ≡ clauseOr t e y
     clause-is =
         ⊎-elim
-        (λ (z : firstOf t burns e (t .text r) ≡ 0). z ∙ sym (unburned t e y (not-so _ (λ b. let c = tells-isBurned t e y .so b in first-absent t burns e (t .text r) z (c .0) (gives-named (c .0) (c .1, c .2))))))
+        (λ (z : firstOf t burns e (t .text r) ≡ 0). z ∙ sym (unburned t e y (not-so _ (λ b. let c = tells-isBurned t e y .so b in first-absent t burns e (t .text r) z (c .0) (gives-named (c .0) (c .1))))))
         (λ (n : firstOf t burns e (t .text r) ≡ 0 → ⊥).
         let F = first-is t burns e (t .text r) (omega (arith, n)) in
         let G : IsFirst (GivesMark t e y) (firstOf t burns e (t .text r)) = record { is = named-gives _ (F .is); none = λ j h g. F .none j h (gives-named j g) } in
-        let b = tells-isBurned t e y .back (_, G .is .0, G .is .1) in
+        let b = tells-isBurned t e y .back (_, G .is) in
         one-first t e y _ _ G (its-clause t e y b) ∙ ap (λ (c : Bool). pick c (clauseOf t e y) 0) (sym b))
         (eq-or-ne (firstOf t burns e (t .text r)) 0)
 
