@@ -16,6 +16,7 @@ use Rattle.reasons.specs.Demands.{Lot, HasEntry, Demand-why, Demand-reas
 use Rattle.reasons.proofs.Said.{said-entry, entry-behind}
 use Rattle.reasons.proofs.Rows.{a-node, one-row, marked-twice}
 use Rattle.reasons.proofs.Reasons.{reasons-are, one-list, entries-are}
+use Rattle.reasons.proofs.Room.{fewer-than-nodes}
 use Rattle.reasons.proofs.Found.{row-or-none, image-refused, no-lot, too-short, all-told}
 
 -- a list of all numbers with a property, where there is none; a list without members
@@ -50,6 +51,9 @@ module _ (s w : List ℕ) (p : ℕ) (z : refusal s ≡ 0) (A : Lot (tree s) p w)
 
   own-long : length w ≡ 2 * (length (A .reasons .burned) + length (A .reasons .used))
   own-long = long (A .reasons .burned) (A .reasons .used) (A .reasons .all-marks) (A .reasons .all-uses)
+
+  has-room : length w ≤ 2 * nodeCount s
+  has-room = let f = fewer-than-nodes s z e x (A .tracked .0) (A .reasons .burned) (A .reasons .used) (A .reasons .all-marks) (A .reasons .all-uses) in let l = own-long in omega arith
 
   unused : Offence61 t p 0 ↔ (w ≡ [])
   unused = (so, back)
@@ -115,6 +119,7 @@ demand-why = record {
 pub demand-reason : Demand-reason
 demand-reason = record {
   number = λ s w m l p z A M L. long s w p z A m l M L;
+  room = has-room;
   none = unused;
   two = used-twice;
   related = λ s w p q z A o. points-at s w p z A q o;

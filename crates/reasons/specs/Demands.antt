@@ -52,12 +52,13 @@ pub record Demand-why : Type 0 where
   pub one-list : (s v w : List ℕ) (p : ℕ) → IsAdmitted s → Lot (tree s) p v → Lot (tree s) p w → v ≡ w
 
 -- "It is proved that the reason is the true one: the number of entries equals the row's marks plus occurrences, so 61 has none and 62
--- at least two": an entry is two words. 62's related word (E4) is the Ident of one of them, or 0. A row with two marks has no
--- occurrence: marks go to the first row of a name, occurrences to the last.
+-- at least two": an entry is two words. A buffer with two words for each node holds every answer. 62's related word (E4) is the Ident
+-- of one of the entries, or 0. A row with two marks has no occurrence: marks go to the first row of a name, occurrences to the last.
 pub record Demand-reason : Type 0 where
   pub number :
       (s w m l : List ℕ) (p : ℕ) → IsAdmitted s → (a : Lot (tree s) p w) → AllOf (Mark (tree s) (a .entry) (a .row)) m
       → AllOf (Use (tree s) (a .entry) (a .row)) l → length w ≡ 2 * (length m + length l)
+  pub room : (s w : List ℕ) (p : ℕ) → IsAdmitted s → Lot (tree s) p w → length w ≤ 2 * nodeCount s
   pub none : (s w : List ℕ) (p : ℕ) → IsAdmitted s → Lot (tree s) p w → Offence61 (tree s) p 0 ↔ (w ≡ [])
   pub two :
       (s w : List ℕ) (p : ℕ) → IsAdmitted s → Lot (tree s) p w → ((q : ℕ) × Offence62 (tree s) p q) ↔ (2 * 2 ≤ length w)
