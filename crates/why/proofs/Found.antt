@@ -28,7 +28,8 @@ use Rattle.reasons.specs.Demands.{NoLot, TellsNothing}
 use Rattle.reasons.proofs.Rows.{holds-place, held-by}
 use Rattle.reasons.proofs.Found.{image-refused, no-lot, too-short, all-told}
 use Rattle.why.specs.declared.Explained.the-variants.{Refused, Words}
-use Rattle.why.specs.Told.{Wrote, Rowed, EntryAt, RowAt, rowNode}
+use Rattle.lot_words.specs.Told.{Wrote, Rowed, rowNode}
+use Rattle.why.specs.Sought.{EntryAt, RowAt}
 use Rattle.why.specs.Face.{Explains}
 
 -- Which row

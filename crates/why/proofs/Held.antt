@@ -14,7 +14,7 @@ use Rattle.rules.specs.Vocabulary.{Below}
 use Rattle.rules.proofs.Reflect.{Tells, tells-both, tells-eqb, tells-ltb, tells-has}
 use Rattle.nodes.specs.Shown.{View, In, treeOf}
 use Rattle.nodes.proofs.Shapes.{allIn, skips-items}
-use Rattle.why.specs.Told.{EntryAt}
+use Rattle.why.specs.Sought.{EntryAt}
 
 -- no Entry before node q holds the place
 abbrev pub NoneHolds : Tree → ℕ → ℕ → Type 0

@@ -1,3 +1,3 @@
--- `Face` has what is answered, `Told` how it is told.
+-- `Face` has what is answered, `Sought` what is sought to answer it.
 pub mod Face
-pub mod Told
+pub mod Sought

@@ -9,7 +9,7 @@ use Rattle.places.proofs.Noting.{places-none}
 use Rattle.linear_tracked.specs.Rows.{Unrowed}
 use Rattle.linear_tracked.proofs.Filled.{rows-start}
 use Rattle.linear.specs.Seen.{LookedWords}
-use Rattle.why.specs.Told.{EntryAt}
+use Rattle.why.specs.Sought.{EntryAt}
 use Rattle.why.proofs.Found.{no-row, its-row, rowed-of, answer-no-lot}
 use Rattle.why.proofs.answer_entry.Statement.{statement}
 use Rattle.why.proofs.answer_entry.Tie as tie

@@ -1,7 +1,7 @@
 -- `answer_row` meets its contract: the words are counted first, and written where there is room.
 use borrow.Author.Needs.{needs}
 use Rattle.nodes.specs.Shown.{treeOf}
-use Rattle.why.specs.Told.{rowNode}
+use Rattle.lot_words.specs.Told.{rowNode}
 use Rattle.why.proofs.Found.{answer-short, answer-told}
 use Rattle.why.proofs.answer_row.Statement.{statement}
 use Rattle.why.proofs.answer_row.Tie as tie

@@ -5,9 +5,9 @@ use Prim.Native.Nat.{_<_}
 use mathlib.Core.Path.{_∙_}
 use mathlib.Core.Logic.{inl}
 use Rattle.linear_parts.proofs.Parts.{param-type}
-use Rattle.why.proofs.Marks.{assets-of, no-clause, clause-is, clause-few}
-use Rattle.why.proofs.clause_of.Statement.{statement}
-use Rattle.why.proofs.clause_of.Tie as tie
+use Rattle.lot_words.proofs.Marks.{assets-of, no-clause, clause-is, clause-few}
+use Rattle.lot_words.proofs.clause_of.Statement.{statement}
+use Rattle.lot_words.proofs.clause_of.Tie as tie
 
 inner-of-requires : tie.Need-inner-of-requires
 inner-of-requires c κs = let T = c .before .pre .0 in (assets-of T, param-type (T .view) (c .before .pre .1) (c .before .pre .2 (T .view)) .0)

@@ -20,7 +20,7 @@ use Rattle.linear_parts.specs.Parts.{rowsOf, firstRow, lastRow}
 use Rattle.linear_uses.specs.Uses.{burnsOn, usesOn}
 use Rattle.linear.proofs.Select.{marks-on, uses-on}
 use Rattle.reasons.specs.Compute.{clauseWords, useWords, each, reasons}
-use Rattle.why.specs.Told.{Marking, Telling, Rowed, rowNode}
+use Rattle.lot_words.specs.Told.{Marking, Telling, Rowed, rowNode}
 
 module _ {nodes : List ℕ} {e row asset : ℕ} {reader : List Bool} {first last : List ℕ} (T : Rowed nodes e row asset reader first last) where
   abbrev t : Tree

@@ -13,11 +13,11 @@ use Rattle.nodes.proofs.Head.{until-head}
 use Rattle.nodes.proofs.Cursors.{Over, before-last, past-last, still-over, on-to}
 use Rattle.linear_uses.specs.Uses.{burnAt}
 use Rattle.reasons.specs.Compute.{clauseWords, each}
-use Rattle.why.specs.Told.{Wrote, Marking}
-use Rattle.why.proofs.Words.{wrote-as, wrote-follows, wrote-long, each-none}
-use Rattle.why.proofs.Marks.{marks-told}
-use Rattle.why.proofs.tell_marks.Statement.{statement}
-use Rattle.why.proofs.tell_marks.Tie as tie
+use Rattle.lot_words.specs.Told.{Wrote, Marking}
+use Rattle.lot_words.proofs.Words.{wrote-as, wrote-follows, wrote-long, each-none}
+use Rattle.lot_words.proofs.Marks.{marks-told}
+use Rattle.lot_words.proofs.tell_marks.Statement.{statement}
+use Rattle.lot_words.proofs.tell_marks.Tie as tie
 
 abbrev Inv-loop : tie.InvT-loop
 Inv-loop asset nodes entry to row clauses first out₀ total₀ children₀ out total children = Over 0 to children × Span nodes 0 (entry + 1) to × Sweeps Wrote (λ (T : Marking nodes entry asset clauses first) i. each (clauseWords (treeOf (T .clausal .view)) entry) (burnAt (treeOf (T .clausal .view)) entry (T .row-of) (row - 1) i)) (entry + 1) to 2 out₀ 0 out total (children .at)

@@ -5,10 +5,10 @@ use Rattle.nodes.proofs.Naming.{naming}
 use Rattle.places.proofs.Noting.{places-none}
 use Rattle.linear_occurrences.proofs.Ahead.{clear-later}
 use Rattle.linear.proofs.Fresh.{clear-all}
-use Rattle.why.proofs.Words.{wrote-as, wrote-join}
-use Rattle.why.proofs.Row.{head-of, marking-of, using-of, its-reasons}
-use Rattle.why.proofs.tell_row.Statement.{statement}
-use Rattle.why.proofs.tell_row.Tie as tie
+use Rattle.lot_words.proofs.Words.{wrote-as, wrote-join}
+use Rattle.lot_words.proofs.Row.{head-of, marking-of, using-of, its-reasons}
+use Rattle.lot_words.proofs.tell_row.Statement.{statement}
+use Rattle.lot_words.proofs.tell_row.Tie as tie
 
 first-statement-requires : tie.Need-first-statement-requires
 first-statement-requires c κs = let T = c .before .before .pre in (T .view, T .here, T .is-entry .after)

@@ -9,10 +9,10 @@ use mathlib.Core.List.{[], _∷_}
 use Rattle.rules.specs.Sweep.{has}
 use Rattle.nodes.specs.Shown.{View, treeOf}
 use Rattle.nodes.proofs.Turns.{named-at}
-use Rattle.why.proofs.Words.{wrote-as, told-nothing}
-use Rattle.why.proofs.Marks.{clause-told, mark-other, mark-elsewhere, mark-not, mark-so}
-use Rattle.why.proofs.tell_mark.Statement.{statement}
-use Rattle.why.proofs.tell_mark.Tie as tie
+use Rattle.lot_words.proofs.Words.{wrote-as, told-nothing}
+use Rattle.lot_words.proofs.Marks.{clause-told, mark-other, mark-elsewhere, mark-not, mark-so}
+use Rattle.lot_words.proofs.tell_mark.Statement.{statement}
+use Rattle.lot_words.proofs.tell_mark.Tie as tie
 
 is-param : (c : tie.Else1) (W : View (c .before .before .before .before .args .nodes .now) 0) → treeOf W .kind (c .before .before .before .before .args .p) ≡ 10
 is-param c W = sym (c .before .kind .ensures W) ∙ c .if1 .left

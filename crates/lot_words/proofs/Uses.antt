@@ -20,7 +20,7 @@ use Rattle.linear_uses.specs.Uses.{onRow, useAt}
 use Rattle.linear_uses.proofs.Uses.{keep-also}
 use Rattle.reasons.specs.Compute.{consumerOf, useWords, each}
 use Rattle.reasons.proofs.Reasons.{consumer-is}
-use Rattle.why.specs.Told.{foundWords}
+use Rattle.lot_words.specs.Told.{foundWords}
 
 -- the words of a node that a test keeps
 each-keep : (f : ℕ → List ℕ) (b : Bool) (x : ℕ) → each f (keep b alone x) ≡ keep b f x

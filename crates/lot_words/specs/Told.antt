@@ -1,4 +1,4 @@
--- What `why` tells of a row (E3 of document 02), and what is lent to tell it.
+-- What is told of a lot (E3 of document 02): the words of its clauses and uses, and what is lent to tell them.
 use Prim.Native.Nat.{ℕ, _+_, _-_, _<_, _≤_}
 use mathlib.Core.Path.{_≡_}
 use mathlib.Core.Bool.{Bool}
@@ -74,16 +74,3 @@ rowNode t e row = getD (rowsOf e t) (row - 1) 0
 abbrev pub foundWords : Tree → (List ℕ → ℕ) → ℕ → Occurrence → List ℕ
 foundWords t F row Nothing = []
 foundWords t F row (Consumed i c) = keep (eqb (F (t .text i)) row) (λ j. j ∷ c ∷ []) i
-
--- r is the Entry that holds node p; 0 where none does
-pub record EntryAt {nodes : List ℕ} (W : View nodes 0) (p r : ℕ) : Type 0 where
-  pub none : r ≡ 0 → (e : ℕ) → Below (treeOf W) entries 0 e → e < p → p < treeOf W .end e → ⊥
-  pub is : 0 < r → Below (treeOf W) entries 0 r
-  pub here : 0 < r → In nodes 0 r
-  pub holds : 0 < r → (r < p) × (p < treeOf W .end r)
-
--- r is the number, from 1 on, of that one of n rows whose place is p; 0 where none is
-pub record RowAt (n : ℕ) (places : List ℕ) (p r : ℕ) : Type 0 where
-  pub none : r ≡ 0 → (k : ℕ) → k < n → getD places k 0 ≡ p → ⊥
-  pub few : r ≤ n
-  pub is : 0 < r → getD places (r - 1) 0 ≡ p

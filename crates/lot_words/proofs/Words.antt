@@ -10,7 +10,7 @@ use Rattle.rules.specs.Vocabulary.{alone}
 use Rattle.records.proofs.Laws.{sets-append}
 use Rattle.records.proofs.Sweep.{Follows}
 use Rattle.reasons.specs.Compute.{each}
-use Rattle.why.specs.Told.{Wrote}
+use Rattle.lot_words.specs.Told.{Wrote}
 
 pub wrote-none : (o : List ℕ) (k : ℕ) → Wrote o k [] o k
 wrote-none o k = record { count = omega arith; words = refl }

@@ -29,8 +29,8 @@ use Rattle.linear_uses.specs.Uses.{onRow, burnAt, burnsOn}
 use Rattle.linear_uses.proofs.Burns.{burned-none}
 use Rattle.reasons.specs.Compute.{clauseOf, clauseWords, each}
 use Rattle.reasons.proofs.Reasons.{clause-first, one-first}
-use Rattle.why.specs.Told.{Clauses, Marking}
-use Rattle.why.proofs.Words.{each-run, each-none, each-one}
+use Rattle.lot_words.specs.Told.{Clauses, Marking}
+use Rattle.lot_words.proofs.Words.{each-run, each-none, each-one}
 
 -- the numbers that the names inside types are found by
 abbrev pub assets-of : {nodes : List ℕ} {e asset : ℕ} {clauses : List ℕ} → Clauses nodes e asset clauses → Assets nodes asset

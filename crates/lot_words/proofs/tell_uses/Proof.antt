@@ -12,11 +12,11 @@ use Rattle.linear_occurrences.proofs.Ahead.{ahead-starts, ahead-on}
 use Rattle.linear_uses.specs.Uses.{useAt}
 use Rattle.linear_uses.proofs.Uses.{spoken}
 use Rattle.reasons.specs.Compute.{useWords, each}
-use Rattle.why.specs.Told.{Wrote, Telling}
-use Rattle.why.proofs.Words.{wrote-as, wrote-follows, wrote-long, each-run}
-use Rattle.why.proofs.Uses.{found-told}
-use Rattle.why.proofs.tell_uses.Statement.{statement}
-use Rattle.why.proofs.tell_uses.Tie as tie
+use Rattle.lot_words.specs.Told.{Wrote, Telling}
+use Rattle.lot_words.proofs.Words.{wrote-as, wrote-follows, wrote-long, each-run}
+use Rattle.lot_words.proofs.Uses.{found-told}
+use Rattle.lot_words.proofs.tell_uses.Statement.{statement}
+use Rattle.lot_words.proofs.tell_uses.Tie as tie
 
 abbrev Inv-loop : tie.InvT-loop
 Inv-loop nodes base row reader consumers₀ last out₀ count end total₀ p₀ consumers out total p =

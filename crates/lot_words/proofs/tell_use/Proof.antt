@@ -4,9 +4,9 @@ use native.Mathlib.Omega.{arith}
 use mathlib.Core.Path.{sym, _∙_}
 use borrow.Author.Tests.{eq-eqb, ne-eqb}
 use Rattle.records.proofs.Sweep.{keep-none, keep-one}
-use Rattle.why.proofs.Words.{wrote-none, wrote-as, told-nothing}
-use Rattle.why.proofs.tell_use.Statement.{statement}
-use Rattle.why.proofs.tell_use.Tie as tie
+use Rattle.lot_words.proofs.Words.{wrote-none, wrote-as, told-nothing}
+use Rattle.lot_words.proofs.tell_use.Statement.{statement}
+use Rattle.lot_words.proofs.tell_use.Tie as tie
 
 returns : tie.Need-returns
 returns c = (λ W F P. rw (c .enum-told .given .1) (wrote-none _ _), omega arith)

@@ -3,8 +3,8 @@ use borrow.Author.Needs.{needs}
 use native.Mathlib.Omega.{arith}
 use mathlib.Core.Path.{refl}
 use native.Mathlib.Numerals.{add-one}
-use Rattle.why.proofs.tell.Statement.{statement}
-use Rattle.why.proofs.tell.Tie as tie
+use Rattle.lot_words.proofs.tell.Statement.{statement}
+use Rattle.lot_words.proofs.tell.Tie as tie
 
 returns : tie.Need-returns
 returns c = let k = c .before .before .before .before .before .before .before .before .before .args .count in (λ _. record { count = refl; words = cc (add-one k) }, omega arith)
