@@ -80,7 +80,7 @@ enum {
     ISONKAYPU_IMAGE_DEPTH = 7, /* a node has over 64 ancestors */
     ISONKAYPU_IMAGE_UNUSED_NAME = 8, /* a name is unused */
 
-    ISONKAYPU_LIST_TOO_SHORT = 9, /* isonkaypu_list only: fewer than 3 words per offence */
+    ISONKAYPU_LIST_TOO_SHORT = 9, /* isonkaypu_list only: fewer than 4 words per offence */
     ISONKAYPU_BUFFER_TOO_SHORT = 10, /* isonkaypu_why only: fewer than 2 words per clause and use */
     ISONKAYPU_NO_LOT_THERE = 13, /* isonkaypu_why only: the place is that of no tracked asset */
 
@@ -157,13 +157,14 @@ ISONKAYPU_MUST_USE size_t isonkaypu_is_known_asset(
     const uint8_t *image, size_t image_len, const uint8_t *name, size_t name_len, uint8_t *yes);
 
 /*
- * The full list: every offence of resolve, then of access, then of linear. A record is three words:
- * code, place, related node (0 where there is none). Related are, for 20, 21, 23, 25 and 27, the first
- * earlier declaration of that name (23: of that signature), and for 62 the other use of the lot: where
- * a Burns clause uses it already, the first counted occurrence, else the second.
+ * The full list: every offence of resolve, then of access, then of linear. A record is four words:
+ * code, place, related node (0 where there is none), and the Entry node that contains the place (0
+ * outside entries). Related are, for 20, 21, 23, 25 and 27, the first earlier declaration of that name
+ * (23: of that signature), and for 62 the other use of the lot: where a Burns clause uses it already,
+ * the first counted occurrence, else the second.
  * Returns 0, `count` is the number of records, and they stand in `words` from its start; words past
  * the last record are as they were.
- * A buffer with fewer than three words for each offence gives 9, a broken image its refusal, 1 to 8:
+ * A buffer with fewer than four words for each offence gives 9, a broken image its refusal, 1 to 8:
  * then `count` is 0 and nothing was written to `words`.
  */
 ISONKAYPU_MUST_USE size_t isonkaypu_list(
@@ -173,7 +174,7 @@ ISONKAYPU_MUST_USE size_t isonkaypu_list(
  * One pass's own part of the list, in the same form. This is never refused with 9: `count` is the
  * number of all records of the pass, and as many of their words are written as fit. So `count` can be
  * more than what was written; the last record written may be cut short; and with `words_len` 0 the
- * records are only counted. Three times the sum of the three counts is the room that isonkaypu_list
+ * records are only counted. Four times the sum of the three counts is the room that isonkaypu_list
  * asks for. A broken image gives its refusal, 1 to 8, `count` 0 and an unchanged buffer.
  */
 ISONKAYPU_MUST_USE size_t isonkaypu_resolve_list(

@@ -1,7 +1,9 @@
 /*
  * The library as a C or C++ program meets it: every function of isonkaypu.h on document 01's example
- * P2, whose bytes are built here from the page, on P2 with version 2, and on no bytes at all; and why a
- * lot is refused on P9 with one use more. What is expected is what documents 01 and 02 say. All runs on a thread that has no more stack left than the header asks for.
+ * P2, whose bytes are built here from the page, on P2 with version 2, and on no bytes at all; why a
+ * lot is refused on P9 with one use more; and the entries of records on two entries of one name. What
+ * is expected is what documents 01 and 02 say. All runs on a thread that has no more stack left than
+ * the header asks for.
  */
 #define _POSIX_C_SOURCE 200809L
 #include "isonkaypu.h"
@@ -11,7 +13,7 @@
 #include <stdio.h>
 #include <string.h>
 
-enum { LENGTH = 172, P9_LENGTH = 380, ROOM = 8 };
+enum { LENGTH = 172, P9_LENGTH = 380, NAMESAKES_LENGTH = 303, RECORD = 4, ROOM = 20 };
 
 /* What lent memory holds before a call, so that what is not written shows. */
 static const uint16_t UNSET = 0xa5a5;
@@ -84,6 +86,32 @@ static const Node P9_NODES[] = {
 };
 static const char *const P9_NAMES[] = {"Q_Asset", "T", "c", "e", "s", "send", "to", "x"};
 static const Contract P9 = {P9_NODES, P9_NAMES, 20, 8};
+
+/* An invariant of what is no state field, and P2's entry twice. */
+static const Node NAMESAKES_NODES[] = {
+    {1, 0, 16},  /* 0 Contract */
+    {23, 2, 2},  /* 1   Name c */
+    {8, 0, 4},   /* 2   Invariant */
+    {35, 5, 4},  /* 3     Ident y */
+    {9, 0, 10},  /* 4   Entry */
+    {23, 3, 6},  /* 5     Name e */
+    {10, 0, 10}, /* 6     Param */
+    {23, 4, 8},  /* 7       Name x */
+    {11, 0, 10}, /* 8       Type */
+    {23, 1, 10}, /* 9         Name Q_Asset */
+    {9, 0, 16},  /* 10  Entry */
+    {23, 3, 12}, /* 11    Name e */
+    {10, 0, 16}, /* 12    Param */
+    {23, 4, 14}, /* 13      Name x */
+    {11, 0, 16}, /* 14      Type */
+    {23, 1, 16}, /* 15        Name Q_Asset */
+};
+static const char *const NAMESAKES_NAMES[] = {"Q_Asset", "c", "e", "x", "y"};
+static const Contract NAMESAKES = {NAMESAKES_NODES, NAMESAKES_NAMES, 16, 5};
+
+/* The records of P2 and of the namesakes: code, place, related, entry. */
+static const uint16_t P2_RECORDS[] = {61, 5, 0, 2};
+static const uint16_t NAMESAKES_RECORDS[] = {23, 11, 5, 10, 50, 3, 0, 0, 61, 7, 0, 4, 61, 13, 0, 10};
 
 static uint8_t *put(uint8_t *at, uint32_t value, int bytes)
 {
@@ -174,18 +202,24 @@ static void question(const char *what, Question *ask, const uint8_t *image, size
     expect(what, n == number && yes == answer);
 }
 
-/* A list in `lent` words: what it answers, and that it writes the first `written` of P2's record. */
-static void list(const char *what, List *part, const uint8_t *image, size_t length, size_t lent,
-                 size_t number, size_t records, size_t written)
+/* A list in `lent` words: what it answers, and that it writes the first `written` of these words. */
+static void list_of(const char *what, List *part, const uint8_t *image, size_t length, size_t lent,
+                    size_t number, size_t records, size_t written, const uint16_t *expected)
 {
-    static const uint16_t record[3] = {61, 5, 0};
     uint16_t words[ROOM];
     size_t count = UNSET, n, k;
     int same = 1;
     for (k = 0; k < ROOM; k++) words[k] = UNSET;
     n = part(image, length, lent ? words : NULL, lent, &count);
-    for (k = 0; k < ROOM; k++) same = same && words[k] == (k < written ? record[k] : UNSET);
+    for (k = 0; k < ROOM; k++) same = same && words[k] == (k < written ? expected[k] : UNSET);
     expect(what, n == number && count == records && same);
+}
+
+/* The same of P2's record. */
+static void list(const char *what, List *part, const uint8_t *image, size_t length, size_t lent,
+                 size_t number, size_t records, size_t written)
+{
+    list_of(what, part, image, length, lent, number, records, written, P2_RECORDS);
 }
 
 /* Why the lot at `place` of P9 is refused, in `lent` words: what it answers, and that it writes so many. */
@@ -228,15 +262,35 @@ static void questions_of_p2(const uint8_t *p2)
 
 static void lists_of_p2(const uint8_t *p2)
 {
-    list("the list with room to spare", isonkaypu_list, p2, LENGTH, ROOM, 0, 1, 3);
-    list("the list in an exact buffer", isonkaypu_list, p2, LENGTH, 3, 0, 1, 3);
-    list("the list one word short", isonkaypu_list, p2, LENGTH, 2, 9, 0, 0);
+    list("the list with room to spare", isonkaypu_list, p2, LENGTH, ROOM, 0, 1, RECORD);
+    list("the list in an exact buffer", isonkaypu_list, p2, LENGTH, RECORD, 0, 1, RECORD);
+    list("the list one word short", isonkaypu_list, p2, LENGTH, RECORD - 1, 9, 0, 0);
     list("the list in no words", isonkaypu_list, p2, LENGTH, 0, 9, 0, 0);
-    list("resolve's part", isonkaypu_resolve_list, p2, LENGTH, 3, 0, 0, 0);
-    list("access's part", isonkaypu_access_list, p2, LENGTH, 3, 0, 0, 0);
-    list("linear's part", isonkaypu_linear_list, p2, LENGTH, 3, 0, 1, 3);
-    list("linear's part one word short", isonkaypu_linear_list, p2, LENGTH, 2, 0, 1, 2);
+    list("resolve's part", isonkaypu_resolve_list, p2, LENGTH, RECORD, 0, 0, 0);
+    list("access's part", isonkaypu_access_list, p2, LENGTH, RECORD, 0, 0, 0);
+    list("linear's part", isonkaypu_linear_list, p2, LENGTH, RECORD, 0, 1, RECORD);
+    list("linear's part one word short", isonkaypu_linear_list, p2, LENGTH, RECORD - 1, 0, 1, RECORD - 1);
     list("linear's part, counted only", isonkaypu_linear_list, p2, LENGTH, 0, 0, 1, 0);
+}
+
+/* Each record has the entry that its place stands in: of two of one name its own, and 0 in the invariant. */
+static void entries_of_namesakes(void)
+{
+    uint8_t image[NAMESAKES_LENGTH];
+    const uint16_t *all = NAMESAKES_RECORDS;
+    expect("the namesakes have 303 bytes", build(&NAMESAKES, image) == NAMESAKES_LENGTH);
+    expect("the namesakes are admitted", isonkaypu_refusal(image, NAMESAKES_LENGTH) == 0);
+    list_of("entries: with room to spare", isonkaypu_list, image, NAMESAKES_LENGTH, ROOM, 0, 4, 4 * RECORD, all);
+    list_of("entries: in an exact buffer", isonkaypu_list, image, NAMESAKES_LENGTH, 4 * RECORD, 0, 4, 4 * RECORD, all);
+    list_of("entries: one word short", isonkaypu_list, image, NAMESAKES_LENGTH, 4 * RECORD - 1, 9, 0, 0, all);
+    list_of("entries: three words for each", isonkaypu_list, image, NAMESAKES_LENGTH, 12, 9, 0, 0, all);
+    list_of("entries: resolve's part", isonkaypu_resolve_list, image, NAMESAKES_LENGTH, ROOM, 0, 1, RECORD, all);
+    list_of("entries: access's part", isonkaypu_access_list, image, NAMESAKES_LENGTH, ROOM, 0, 1, RECORD,
+            all + RECORD);
+    list_of("entries: linear's part", isonkaypu_linear_list, image, NAMESAKES_LENGTH, ROOM, 0, 2, 2 * RECORD,
+            all + 2 * RECORD);
+    list_of("entries: linear's part one word short", isonkaypu_linear_list, image, NAMESAKES_LENGTH,
+            2 * RECORD - 1, 0, 2, 2 * RECORD - 1, all + 2 * RECORD);
 }
 
 /* The lot of P2, which nothing uses, is at 5; no other number is a lot's place. */
@@ -297,6 +351,7 @@ static void run_all(void)
     on_p2(image);
     questions_of_p2(image);
     lists_of_p2(image);
+    entries_of_namesakes();
     why_p2(image);
     why_p9();
     image[0] = 2;

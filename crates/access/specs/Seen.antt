@@ -9,6 +9,7 @@ use Rattle.rules.specs.Vocabulary.{Rec, below, someBelow}
 use Rattle.rules.specs.Model.{isState}
 use Rattle.rules.specs.Access.{rule50, assignRule, callRule, statementRules}
 use Rattle.records.specs.Words.{Lent, old, new}
+use Rattle.records.specs.Records.{Entered, on}
 use Rattle.nodes.specs.Shown.{View, In, treeOf}
 use Rattle.nodes.specs.Marks.{Marks}
 
@@ -56,15 +57,15 @@ abbrev pub item51 : ℕ → Tree → List Rec
 item51 p t = keep (has (t .kind p) entry) (λ e. below t statement e (statementRules t e)) p
 
 -- what F says of the tree of the nodes that are lent; of the tree and the entry
-abbrev pub seenAccess : (Tree → List Rec) → (nodes : Lent (List ℕ)) (state writer written : Lent (List Bool)) → AccessTables (old nodes) (old state) (old writer) (old written) → List Rec
-seenAccess F nodes state writer written T = F (treeOf (T .view))
+abbrev pub seenAccess : (Tree → List Rec) → (nodes : Lent (List ℕ)) (state writer written : Lent (List Bool)) → AccessTables (old nodes) (old state) (old writer) (old written) → Entered
+seenAccess F nodes state writer written T = on F (treeOf (T .view))
 
-abbrev pub seenIn : (Tree → ℕ → List Rec) → (nodes : Lent (List ℕ)) (base : ℕ) (state writer written : Lent (List Bool)) → WritingBody (old nodes) base (old state) (old writer) (old written) → List Rec
-seenIn F nodes base state writer written T = F (treeOf (T .writing .view)) (T .writing .entry)
+abbrev pub seenIn : (Tree → ℕ → List Rec) → (nodes : Lent (List ℕ)) (base : ℕ) (state writer written : Lent (List Bool)) → WritingBody (old nodes) base (old state) (old writer) (old written) → Entered
+seenIn F nodes base state writer written T = on (λ t. F t (T .writing .entry)) (treeOf (T .writing .view))
 
 -- 51 at all of the nodes that are lent
-abbrev pub swept51 : (nodes : Lent (List ℕ)) (base : ℕ) (state writer written : Lent (List Bool)) → WritingBody (old nodes) base (old state) (old writer) (old written) → List Rec
-swept51 nodes base state writer written T = run (λ p. at51 p (treeOf (T .writing .view)) (T .writing .entry)) base (T .writing .view .upto - base)
+abbrev pub swept51 : (nodes : Lent (List ℕ)) (base : ℕ) (state writer written : Lent (List Bool)) → WritingBody (old nodes) base (old state) (old writer) (old written) → Entered
+swept51 nodes base state writer written T = on (λ t. run (λ p. at51 p t (T .writing .entry)) base (T .writing .view .upto - base)) (treeOf (T .writing .view))
 
 -- no name is marked afterwards
 abbrev pub CleansWritten : (nodes : Lent (List ℕ)) (state writer written : Lent (List Bool)) → Type 0

@@ -25,6 +25,7 @@ ghost use Rattle.nodes.specs.Shown.{View, In, treeOf};
 ghost use Rattle.nodes.specs.Marks.{Marks, Turns};
 ghost use Rattle.nodes.specs.First.{Head};
 ghost use Rattle.nodes.specs.State.{State, seen};
+ghost use Rattle.nodes.specs.Entries.{inPart};
 ghost use Rattle.names.specs.Spelled.{MethodsOf, Looked, looked};
 ghost use Rattle.access.specs.Seen.{AccessTables, Writing, WritingBody, seenAccess, seenIn, swept51, CleansWritten, at50, item50, at51, item51, clauseHas, writtenIn, isWriter};
 
@@ -41,7 +42,7 @@ fn rule50(nodes: &[u8], p: usize, state: &Marks) -> bool
 
 // 50 in an item, if it is an Invariant.
 fn invariant(nodes: &[u8], item: usize, state: &Marks, out: &mut [u16], count: usize) -> usize
-    requires { ⌜ State (now nodes) 0 (now state) × In (now nodes) 0 item × (count < 2 ^ 50) ⌝ }
+    requires { ⌜ State (now nodes) 0 (now state) × In (now nodes) 0 item × (count < 2 ^ 50) × (0 < item) ⌝ }
     ensures { λ r. ⌜ Adds (seen (item50 item) nodes 0 state) 2048 out count r ⌝ }
 {
     if nodes::kind(nodes, 0, item) != INVARIANT {
@@ -51,7 +52,7 @@ fn invariant(nodes: &[u8], item: usize, state: &Marks, out: &mut [u16], count: u
     let mut total = count;
     let mut p = item + 1;
     while p < end {
-        total = records::emit_if(rule50(nodes, p, state), out, total, 50, p);
+        total = records::emit_if(rule50(nodes, p, state), out, total, 50, p, 0);
         p += 1;
     }
     total
@@ -150,18 +151,19 @@ fn rule51(
     }
 }
 
-// 51 in an entry's statements, lent as their own part of the node area, which starts with number `base`.
+// 51 in the statements of an entry, lent as their own part of the node area, which starts with number `base`.
 fn statements(
     nodes: &[u8],
     base: usize,
+    entry: usize,
     state: &Marks,
     writer: &Marks,
     written: &Marks,
     out: &mut [u16],
     count: usize,
 ) -> usize
-    requires { ⌜ WritingBody (now nodes) base (now state) (now writer) (now written) × (count < 2 ^ 50) ⌝ }
-    ensures { λ r. ⌜ Adds (swept51 nodes base state writer written) 2048 out count r ⌝ }
+    requires { ⌜ WritingBody (now nodes) base (now state) (now writer) (now written) × (count < 2 ^ 50) × (entry < 2048) ⌝ }
+    ensures { λ r. ⌜ Adds (inPart entry nodes base (swept51 nodes base state writer written)) 2048 out count r ⌝ }
 {
     let end = base + nodes.len() / 16;
     let mut total = count;
@@ -173,6 +175,7 @@ fn statements(
             total,
             51,
             p,
+            entry,
         );
         p += 1;
     }
@@ -199,7 +202,7 @@ fn entry(
     let first = items::first_statement(nodes, 0, item);
     declared_writes(nodes, item, first, true, written);
     let body = items::statements(nodes, 0, item, first);
-    let total = statements(body, first, state, writer, written, out, count);
+    let total = statements(body, first, item, state, writer, written, out, count);
     declared_writes(nodes, item, first, false, written);
     total
 }

@@ -207,7 +207,7 @@ fn tell(v: Listed, count: &mut usize) -> usize
     }
 }
 
-// The full list, or refusal 9 where there are fewer than 3 words for each record.
+// The full list, or refusal 9 where there are fewer than 4 words for each record.
 #[no_mangle]
 pub extern "C" fn isonkaypu_list(image: &[u8], words: &mut [u16], count: &mut usize) -> usize
     ensures { λ r. ⌜ Tells (listAnswer (old image) (length (old words))) r (new count) × (new words ≡ listBuffer (old image) (old words)) ⌝ }

@@ -6,6 +6,7 @@ use nodes::GENESIS;
 ghost use mathlib.Core.Path.{_≡_};
 ghost use Prim.Native.Nat.{_<_};
 ghost use lib.Dec.{eqb};
+ghost use Rattle.image.specs.Pick.{pick};
 ghost use Rattle.rules.specs.Sweep.{either, has};
 ghost use Rattle.rules.specs.Tree.{bodied, statement};
 ghost use Rattle.records.specs.Words.{old};
@@ -66,6 +67,13 @@ pub fn is_bodied(k: usize) -> bool
         ENTRY => true,
         _ => false,
     }
+}
+
+// The entry that the nodes of an item of kind k stand in: the item itself, if it is an Entry; else none, 0.
+pub fn entry_of(k: usize, item: usize) -> usize
+    ensures { λ r. ⌜ r ≡ pick (eqb k 9) item 0 ⌝ }
+{
+    if k == ENTRY { item } else { 0 }
 }
 
 pub fn is_statement(k: usize) -> bool

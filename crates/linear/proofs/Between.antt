@@ -2,12 +2,15 @@
 use Prim.Native.Nat.{ℕ, _<_}
 use mathlib.Core.Path.{_≡_, ap, _∙_, sym}
 use mathlib.Core.Bool.{Bool}
-use mathlib.Core.List.{List, _++_, List·Memᴰ·head}
+use mathlib.Core.List.{List, _++_, List·Memᴰ, List·Memᴰ·head}
 use native.Mathlib.Omega.{arith}
 use Rattle.rules.specs.Sweep.{run}
 use Rattle.rules.specs.Tree.{tree, «let»}
 use Rattle.rules.specs.Vocabulary.{Rec, below}
 use Rattle.rules.specs.Linear.{rule60, linearEntry}
+use Rattle.rules.specs.All.{entryOf}
+use Rattle.records.specs.Records.{Laid}
+use Rattle.records.proofs.Laws.{laid-join, laid-as, laid-entered}
 use Rattle.records.proofs.Sweep.{keep-one, has-one}
 use Rattle.nodes.specs.Shown.{In, treeOf}
 use Rattle.nodes.proofs.Parts.{inside, formed}
@@ -15,9 +18,17 @@ use Rattle.linear_parts.specs.declared.Words.{Words}
 use Rattle.linear_parts.specs.Parts.{rowsOf}
 use Rattle.linear_tracked.specs.Rows.{Rows, Unrowed, Placed}
 use Rattle.linear_tracked.proofs.Filled.{rows-start}
+use Rattle.linear_tracked.proofs.Place.{row-entered}
 use Rattle.linear_rows.specs.Tallies.{Tallied, judgedAt}
+use Rattle.linear_rows.proofs.Judged.{judged-place}
 use Rattle.linear.specs.Seen.{RowsNoted, LinearTables, itemLinear, rowMarks, rowUses}
 use Rattle.linear.proofs.Judged.{rows-judged}
+
+-- the records of an entry: the 60s, then the rows in order
+item-is : (s : List ℕ) (e : ℕ) → tree s .kind e ≡ 9 → {n : ℕ} {places first last tallies : List ℕ} → Rows s (rowsOf e (tree s)) n places first last → Tallied (rowMarks (tree s) e) (rowUses (tree s) e) tallies
+    → below (tree s) «let» e (rule60 (tree s) e) ++ run (judgedAt places tallies) 0 n ≡ itemLinear e (tree s)
+unfolding linearEntry
+item-is s e k R C = ap (λ (l : List Rec). below (tree s) «let» e (rule60 (tree s) e) ++ l) (rows-judged e R C) ∙ sym (keep-one (linearEntry (tree s)) e (has-one (tree s .kind e) 9 k))
 
 module _ {nodes : List ℕ} {words : Words} {reader burned : List Bool} {places first last tallies : List ℕ} (T : LinearTables nodes words reader burned places first last tallies) where
   pub under-root : {e : ℕ} → In nodes 0 e → e < treeOf (T .known .view) .end 0
@@ -48,8 +59,11 @@ module _ {nodes : List ℕ} {words : Words} {reader burned : List Bool} {places 
       blank = T .clean .blank;
     }
 
--- the records of an entry: the 60s, then the rows in order
-pub item-is : (s : List ℕ) (e : ℕ) → tree s .kind e ≡ 9 → {n : ℕ} {places first last tallies : List ℕ} → Rows s (rowsOf e (tree s)) n places first last → Tallied (rowMarks (tree s) e) (rowUses (tree s) e) tallies
-    → below (tree s) «let» e (rule60 (tree s) e) ++ run (judgedAt places tallies) 0 n ≡ itemLinear e (tree s)
-unfolding linearEntry
-item-is s e k R C = ap (λ (l : List Rec). below (tree s) «let» e (rule60 (tree s) e) ++ l) (rows-judged e R C) ∙ sym (keep-one (linearEntry (tree s)) e (has-one (tree s .kind e) 9 k))
+    -- what is judged of the rows stands in the entry
+    rows-entered : (tallies′ : List ℕ) → In nodes 0 e → 0 < e → (r : Rec) → List·Memᴰ r (run (judgedAt places′ tallies′) 0 n) → entryOf (treeOf (T .known .view)) (r .place) ≡ e
+    rows-entered tallies′ i z r m = let q = judged-place places′ tallies′ n r m in ap (entryOf (treeOf (T .known .view))) (q .2) ∙ row-entered (placed-of i R) (unrowed-of k i z .is-entry) (q .0) (q .1)
+
+    pub item-laid : {tallies′ o o′ o″ : List ℕ} {m m′ m″ : ℕ} → In nodes 0 e → 0 < e → Tallied (rowMarks (treeOf (T .known .view)) e) (rowUses (treeOf (T .known .view)) e) tallies′
+        → Laid (entryOf (treeOf (T .known .view))) o m (below (treeOf (T .known .view)) «let» e (rule60 (treeOf (T .known .view)) e)) o′ m′ → Laid (λ _. e) o′ m′ (run (judgedAt places′ tallies′) 0 n) o″ m″
+        → Laid (entryOf (treeOf (T .known .view))) o m (itemLinear e (treeOf (T .known .view))) o″ m″
+    item-laid {tallies′} i z C a b = laid-as (item-is (T .known .view .image) e k R C) (laid-join a (laid-entered (rows-entered tallies′ i z) b))

@@ -12,6 +12,7 @@ use Rattle.rules.specs.Tree.{Tree, entry as entries}
 use Rattle.rules.specs.Vocabulary.{Rec}
 use Rattle.rules.specs.Linear.{marks, uses, linearEntry}
 use Rattle.records.specs.Words.{Lent, old, new}
+use Rattle.records.specs.Records.{Entered, on}
 use Rattle.nodes.specs.Shown.{View, In, treeOf}
 use Rattle.nodes.specs.Marks.{Marks}
 use Rattle.names.specs.declared.Words.{Words as AllWords}
@@ -56,8 +57,8 @@ itemLinear p t = keep (has (t .kind p) entries) (linearEntry t) p
 
 -- what F says of the tree of the nodes that are lent
 abbrev pub seenLinear : (Tree → List Rec) → (nodes : Lent (List ℕ)) (words : Words) (reader burned : Lent (List Bool)) (places first last tallies : Lent (List ℕ))
-    → LinearTables (old nodes) words (old reader) (old burned) (old places) (old first) (old last) (old tallies) → List Rec
-seenLinear F nodes words reader burned places first last tallies T = F (treeOf (T .known .view))
+    → LinearTables (old nodes) words (old reader) (old burned) (old places) (old first) (old last) (old tallies) → Entered
+seenLinear F nodes words reader burned places first last tallies T = on F (treeOf (T .known .view))
 
 -- the tables are clean again after an item, and no node behind it has a consumer
 abbrev pub CleansRows : ℕ → (nodes : Lent (List ℕ)) (words : Words) (reader burned : Lent (List Bool)) (consumers places first last tallies : Lent (List ℕ)) → Type 0

@@ -11,7 +11,7 @@ use places::Places;
 ghost use Prim.Native.Nat.{_*_, _<_, _^_};
 ghost use Rattle.rules.specs.Linear.{linear};
 ghost use Rattle.records.specs.Words.{old, new};
-ghost use Rattle.records.specs.Records.{Adds};
+ghost use Rattle.records.specs.Records.{Adds, on};
 ghost use Rattle.nodes.specs.Shown.{In, treeOf};
 ghost use Rattle.linear_occurrences.specs.Counted.{Clear};
 ghost use Rattle.linear.specs.Seen.{LookedWords, RowsNoted, Tallies-entry, LinearTables, CleansRows, seenLinear, itemLinear};
@@ -74,7 +74,7 @@ fn entry(
         last,
         tallies,
     );
-    let total = linear_rows::judge(n, places, tallies, out, aliased);
+    let total = linear_rows::judge(item, n, places, tallies, out, aliased);
     linear_tracked::untrack(n, nodes, places, first);
     linear_tracked::untrack(n, nodes, places, last);
     total
@@ -126,7 +126,7 @@ fn entries(
 // The records of the linear pass of an admitted image, from the buffer's start.
 pub fn list(nodes: &[u8], words: names::Words, out: &mut [u16]) -> usize
     requires { ⌜ LookedWords (now nodes) words ⌝ }
-    ensures { λ r. ⌜ Adds (λ (T : LookedWords (old nodes) words). linear (treeOf (T .view))) (3070 * 2048) out 0 r ⌝ }
+    ensures { λ r. ⌜ Adds (λ (T : LookedWords (old nodes) words). on linear (treeOf (T .view))) (3070 * 2048) out 0 r ⌝ }
 {
     let asset_words = linear_parts::asset_words(words);
     let mut reader = [false; Image::NAMES];

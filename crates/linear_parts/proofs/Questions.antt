@@ -11,7 +11,7 @@ use Rattle.rules.specs.Sweep.{either, same, hasWord}
 use Rattle.rules.specs.Tree.{Tree, param, «let», peels}
 use Rattle.rules.specs.Words.{Q-Asset, split, mint}
 use Rattle.rules.specs.Vocabulary.{down, someBelow, atBottom, named, isField, isIdent, typed}
-use Rattle.rules.specs.Linear.{produces, isRow, placeOf, isAlias}
+use Rattle.rules.specs.Linear.{produces, isRow, isAlias}
 use Rattle.records.proofs.Sweep.{has-one, has-not}
 use Rattle.linear_parts.specs.Parts.{isMaker, is60}
 
@@ -32,14 +32,6 @@ module _ (t : Tree) (p : ℕ) where
   pub maker-other : (t .kind p ≡ 42 → ⊥) → (t .kind p ≡ 35 → ⊥) → false ≡ isMaker p t
   unfolding isField isIdent
   maker-other m n = sym (rw (ne-eqb (t .kind p) 42 m, ne-eqb (t .kind p) 35 n))
-
-  pub place-let : t .kind p ≡ 25 → p ≡ placeOf t p
-  unfolding placeOf
-  place-let k = sym (rw (eq-eqb (t .kind p) 25 k))
-
-  pub place-param : (t .kind p ≡ 25 → ⊥) → p + 1 ≡ placeOf t p
-  unfolding placeOf
-  place-param n = sym (rw (ne-eqb (t .kind p) 25 n))
 
 -- an asset parameter or an earlier tracked Let has the name w
 abbrev pub isNamedRow : Tree → ℕ → ℕ → List ℕ → Bool

@@ -2,7 +2,7 @@
 use Prim.Native.Nat.{ℕ, _+_, _*_, _<_, _≤_}
 use mathlib.Core.Path.{_≡_, refl, ap, _∙_, sym}
 use mathlib.Core.Bool.{Bool, true, false}
-use mathlib.Core.List.{List, [], _∷_}
+use mathlib.Core.List.{List, [], _∷_, List·Memᴰ}
 use mathlib.Core.Logic.{⊎-elim}
 use native.Mathlib.Omega.{arith}
 use borrow.Author.Tests.{lt-ltb, le-ltb, ltb-true, ltb-false}
@@ -11,11 +11,13 @@ use lib.ListN.{length, getD, set, length-set, List·getD-eq-default}
 use lib.Seq.{getD-set-same, getD-set-other}
 use Rattle.image.specs.Pick.{pick}
 use Rattle.image.proofs.Decide.{eq-or-ne}
+use Rattle.rules.specs.Sweep.{run}
 use Rattle.rules.specs.Vocabulary.{Rec, rec, only}
+use Rattle.rules.proofs.Reflect.{tells-eqb, tells-ltb, finds-only, finds-append, finds-run}
 use Rattle.records.specs.declared.Hit.{Hit}
-use Rattle.records.specs.Records.{Added, AsksAt, hitList}
-use Rattle.records.proofs.Laws.{asked-at, added-as, added-join}
-use Rattle.linear_rows.specs.Tallies.{judgedAt, byCells}
+use Rattle.records.specs.Records.{Added, hitList}
+use Rattle.records.proofs.Laws.{added-as, added-join}
+use Rattle.linear_rows.specs.Tallies.{marksAt, countAt, judgedAt, byCells}
 
 -- the first of a row's cells
 pub cell-first : (r : ℕ) → 3 * r + 0 ≡ 3 * r
@@ -35,11 +37,18 @@ module _ {a b m n : ℕ} (r : Rec) (d : a ≡ m) (e : b ≡ n) where
   twice l = simp (lt-ltb 1 (m + n) (omega arith))
 
 -- what was asked of a row whose place was read as q, one record after the other
-pub row-judged : (m n s : ℕ) {p q : ℕ} (hit : Bool) (two : Hit) {o o′ o″ : List ℕ} {k k′ k″ : ℕ} → q ≡ p → hit ≡ eqb (m + n) 0 → AsksAt (λ (_ : Unit {0}). only (ltb 1 (m + n)) (rec 62 q s)) 62 q two
-    → Added (λ (_ : Unit {0}). only hit (rec 61 q 0)) 1 o k o′ k′ → Added (λ (_ : Unit {0}). hitList two 62 q) 1 o′ k′ o″ k″ → Added (λ (_ : Unit {0}). byCells p m n s) 2 o k o″ k″
+pub row-judged : {e : ℕ → ℕ} (m n s : ℕ) {p q : ℕ} (hit : Bool) (two : Hit) {o o′ o″ : List ℕ} {k k′ k″ : ℕ} → q ≡ p → hit ≡ eqb (m + n) 0 → only (ltb 1 (m + n)) (rec 62 q s) ≡ hitList two 62 q
+    → Added (λ (_ : Unit {0}). e) (λ _. only hit (rec 61 q 0)) 1 o k o′ k′ → Added (λ (_ : Unit {0}). e) (λ _. hitList two 62 q) 1 o′ k′ o″ k″ → Added (λ (_ : Unit {0}). e) (λ _. byCells p m n s) 2 o k o″ k″
 row-judged m n s {q = q} hit two d e f a b =
     added-as (λ x. ap (λ (p : ℕ). byCells p m n s) d)
-    (added-join (added-as (λ x. ap (λ (b : Bool). only b (rec 61 q 0)) e) a) (asked-at {F = λ (_ : Unit {0}). only (ltb 1 (m + n)) (rec 62 q s)} 62 q two f b))
+    (added-join (added-as (λ x. ap (λ (b : Bool). only b (rec 61 q 0)) e) a) (added-as (λ x. sym f) b))
+
+-- each record of the rows has the place of a row
+pub judged-place : (places s : List ℕ) (n : ℕ) (x : Rec) → List·Memᴰ x (run (judgedAt places s) 0 n) → (r : ℕ) × (r < n) × (x .place ≡ getD places r 0)
+judged-place places s n x m =
+    let f = finds-run 0 n (λ r. finds-append _ _ (finds-only _ (tells-eqb (marksAt s r + countAt s r) 0)) (finds-only _ (tells-ltb 1 (marksAt s r + countAt s r)))) .so x m in
+    let h = f .2 in
+    (f .0, omega arith, ⊎-elim (λ d. ap (λ (y : Rec). y .place) (d .0)) (λ d. ap (λ (y : Rec). y .place) (d .0)) (f .3))
 
 -- s is s₀ with the first n rows blank
 pub record Blanked (s₀ : List ℕ) (n : ℕ) (s : List ℕ) : Type 0 where

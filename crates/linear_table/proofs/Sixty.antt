@@ -1,4 +1,4 @@
--- The first 60 of an entry, from a buffer of three words.
+-- The first 60 of an entry, from a buffer of one record's words.
 use Prim.Native.Nat.{ℕ, zero, suc, _+_, _-_, _<_}
 use mathlib.Core.Path.{_≡_, refl, ap, _∙_, sym}
 use mathlib.Core.Bool.{Bool, true, false}
@@ -44,14 +44,14 @@ sets-keep : (ws l : List ℕ) (i j : ℕ) → j < i → getD (sets l i ws) j 0 �
 sets-keep [] l i j h = refl
 sets-keep (w ∷ ws) l i j h = sets-keep ws (set l i w) (suc i) j (omega arith) ∙ getD-set-other l i j w 0 (λ e. omega arith)
 
-second-word : (r : Rec) (m : List Rec) {o : List ℕ} {k : ℕ} → Laid (replicate 3 0) 0 (r ∷ m) o k → getD o 1 0 ≡ r .place
-second-word r m L = ap (λ (o : List ℕ). getD o 1 0) (L .words) ∙ sets-keep (words m) (r .code ∷ r .place ∷ r .related ∷ []) 3 1 (omega arith)
+second-word : (r : Rec) (m : List Rec) {f : ℕ → ℕ} {o : List ℕ} {k : ℕ} → Laid f (replicate 4 0) 0 (r ∷ m) o k → getD o 1 0 ≡ r .place
+second-word r m {f} L = ap (λ (o : List ℕ). getD o 1 0) (L .words) ∙ sets-keep (words f m) (r .code ∷ r .place ∷ r .related ∷ f (r .place) ∷ []) 4 1 (omega arith)
 
-none-laid : (l : List Rec) {o : List ℕ} {k : ℕ} → Laid (replicate 3 0) 0 l o k → k ≡ 0 → l ≡ []
+none-laid : (l : List Rec) {f : ℕ → ℕ} {o : List ℕ} {k : ℕ} → Laid f (replicate 4 0) 0 l o k → k ≡ 0 → l ≡ []
 none-laid [] L e = refl
-none-laid (r ∷ m) {o} {k} L e = let c : k ≡ 0 + suc (length m) = L .count in absurd (omega arith)
+none-laid (r ∷ m) {k = k} L e = let c : k ≡ 0 + suc (length m) = L .count in absurd (omega arith)
 
-module _ (t : Tree) (e : ℕ) {o : List ℕ} {k : ℕ} (L : Laid (replicate 3 0) 0 (entry60s t e) o k) where
+module _ (t : Tree) (e : ℕ) {f : ℕ → ℕ} {o : List ℕ} {k : ℕ} (L : Laid f (replicate 4 0) 0 (entry60s t e) o k) where
   pub first60-none : k ≡ 0 → First60 (entry60s t e) 0
   first60-none z = record { none = λ d. none-laid (entry60s t e) L z; some = λ h. absurd (omega arith) }
 

@@ -111,7 +111,7 @@ fn track_entry(
     ensures { λ r. ⌜ (r .rows ≤ 511) × TakesRows nodes words entry places first last (r .rows) ⌝ }
     ensures { λ r. ⌜ (r .alias < 65536) × ((T : Unrowed (old nodes) words entry (old places) (old first) (old last)) → First60 (entry60s (treeOf (T .known .view)) entry) (r .alias)) ⌝ }
 {
-    let mut out = [0u16; 3];
+    let mut out = [0u16; 4];
     let tracked = linear_tracked::track(words, nodes, entry, places, first, last, &mut out, 0);
     let rows = tracked.rows;
     if tracked.count == 0 {

@@ -10,6 +10,10 @@ use Rattle.rules.specs.Sweep.{run, keep, has}
 use Rattle.rules.specs.Tree.{Tree, tree, «let», param-let, peels}
 use Rattle.rules.specs.Vocabulary.{below, rec, only, atBottom}
 use Rattle.rules.specs.Linear.{isAlias, rule60}
+use Rattle.rules.specs.All.{entryOf}
+use Rattle.rules.proofs.Admitted.{admitted}
+use Rattle.rules.proofs.Entries.{in-entry}
+use Rattle.records.specs.Records.{Held}
 use Rattle.records.proofs.Sweep.{run-none, run-on, keep-none}
 use Rattle.nodes.specs.Shown.{treeOf}
 use Rattle.linear_parts.specs.declared.Words.{Words}
@@ -40,6 +44,10 @@ part-at {e = e} T a b R = record {
   inside = b;
   first-rows = R .first-rows;
 }
+
+-- what is seen of it, with its entry
+abbrev pub part-held : {X : Type 0} {nodes : List ℕ} {words : Words} {e p : ℕ} {places first last : List ℕ} (T : Unrowed nodes words e places first last) → e < p → p < treeOf (T .known .view) .end e → X → Held X e p (p + 1)
+part-held T a b x = let W = T .known .view in record { seen = x; entries = entryOf (treeOf W); held = λ i l h. in-entry (treeOf W) (admitted (W .image) (W .shown .admitted)) i (T .is-entry) (omega arith) (omega arith) }
 
 -- 60 at a part, from the test
 module _ (t : Tree) (e p : ℕ) where

@@ -12,7 +12,7 @@ ghost use Rattle.rules.specs.Tree.{«let»};
 ghost use Rattle.rules.specs.Vocabulary.{below, named};
 ghost use Rattle.rules.specs.Linear.{rule60};
 ghost use Rattle.records.specs.Words.{old, new};
-ghost use Rattle.records.specs.Records.{Adds};
+ghost use Rattle.records.specs.Records.{Adds, on, within};
 ghost use Rattle.nodes.specs.Shown.{View, Worded, treeOf};
 ghost use Rattle.places.specs.declared.Note.the-variants.{Off};
 ghost use Rattle.places.specs.Places.{Noted, Notes, noting};
@@ -43,11 +43,12 @@ pub struct Tracked {
     pub count: usize,
 }
 
-// Part p, after n rows and `count` records: a row more, a 60 more, or neither.
+// Part p of an entry, after n rows and `count` records: a row more, a 60 more, or neither.
 fn take_part(
     words: Words,
     nodes: &[u8],
     p: usize,
+    entry: usize,
     n: usize,
     places: &mut Cells,
     first: &mut Places,
@@ -55,9 +56,9 @@ fn take_part(
     out: &mut [u16],
     count: usize,
 ) -> Tracked
-    requires { ⌜ PartAt (now nodes) words p (now first) × (4 * n < p) × (count < 2 ^ 51) ⌝ }
+    requires { ⌜ PartAt (now nodes) words p (now first) × (entry < 2048) × (4 * n < p) × (count < 2 ^ 51) ⌝ }
     ensures { λ r. ⌜ TakesRow nodes words p n places first last (r .rows) ⌝ }
-    ensures { λ r. ⌜ Adds (λ (T : PartAt (old nodes) words p (old first)). at60 p (treeOf (T .known .view)) (T .entry)) 1 out count (r .count) ⌝ }
+    ensures { λ r. ⌜ Adds (within entry p (p + 1) (λ (T : PartAt (old nodes) words p (old first)). on (λ t. at60 p t (T .entry)) (treeOf (T .known .view)))) 1 out count (r .count) ⌝ }
 {
     match linear_parts::part_of(words, nodes, p, first) {
         Part::Row => {
@@ -67,7 +68,7 @@ fn take_part(
             Tracked { rows: n + 1, count }
         }
         Part::Alias => {
-            let total = records::emit(out, count, 60, p as u16, 0);
+            let total = records::emit(out, count, 60, p as u16, 0, entry as u16);
             Tracked {
                 rows: n,
                 count: total,
@@ -90,7 +91,7 @@ pub fn track(
 ) -> Tracked
     requires { ⌜ Unrowed (now nodes) words entry (now places) (now first) (now last) × (count < 2 ^ 50) ⌝ }
     ensures { λ r. ⌜ (r .rows ≤ 511) × TakesRows nodes words entry places first last (r .rows) ⌝ }
-    ensures { λ r. ⌜ Adds (λ (T : Unrowed (old nodes) words entry (old places) (old first) (old last)). below (treeOf (T .known .view)) «let» entry (rule60 (treeOf (T .known .view)) entry)) 2048 out count (r .count) ⌝ }
+    ensures { λ r. ⌜ Adds (λ (T : Unrowed (old nodes) words entry (old places) (old first) (old last)). on (λ t. below t «let» entry (rule60 t entry)) (treeOf (T .known .view))) 2048 out count (r .count) ⌝ }
 {
     let to = nodes::end(nodes, 0, entry);
     let mut tracked = Tracked { rows: 0, count };
@@ -104,6 +105,7 @@ pub fn track(
             words,
             nodes,
             children.at,
+            entry,
             tracked.rows,
             places,
             first,

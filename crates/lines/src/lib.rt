@@ -48,7 +48,7 @@ pub fn decimal(n: usize, most: usize, out: &mut [u8], at: usize) -> usize
 }
 
 // A space and a number.
-fn number(n: usize, out: &mut [u8], at: usize) -> usize
+pub fn number(n: usize, out: &mut [u8], at: usize) -> usize
     requires { ⌜ at < 2 ^ 59 ⌝ }
     ensures { λ r. ⌜ Printed (old out) at (32 ∷ digits 20 n) (new out) r × (r ≤ at + 21) ⌝ }
 {

@@ -7,6 +7,7 @@ use Rattle.rules.specs.Vocabulary.{Rec}
 use Rattle.rules.specs.Model.{isState}
 use Rattle.rules.specs.Words.{QTOV, Q-Asset, Q-Address, deployer, mint, mint-asset, split, send, send-asset, get, contains, set-word, remove, merge, insert, debit, credit, has-word}
 use Rattle.records.specs.Words.{Lent, old}
+use Rattle.records.specs.Records.{Entered, on}
 use Rattle.nodes.specs.Shown.{View, In, treeOf}
 use Rattle.nodes.specs.Marks.{Marks}
 use Rattle.names.specs.Found.{Numbered}
@@ -48,5 +49,5 @@ pub record Looked (nodes : List ℕ) (words : Words) (state : List Bool) : Type 
   pub state-marks : Marks (view .image) (isState (treeOf view)) state
 
 -- what F says of the tree of these nodes
-abbrev pub looked : (Tree → List Rec) → (nodes : Lent (List ℕ)) (words : Words) (state : Lent (List Bool)) → Looked (old nodes) words (old state) → List Rec
-looked F nodes words state T = F (treeOf (T .view))
+abbrev pub looked : (Tree → List Rec) → (nodes : Lent (List ℕ)) (words : Words) (state : Lent (List Bool)) → Looked (old nodes) words (old state) → Entered
+looked F nodes words state T = on F (treeOf (T .view))

@@ -19,7 +19,7 @@ use Rattle.nodes.specs.First.{heads, Starts, Head, Until}
 use Rattle.nodes.proofs.Parts.{kind-is, end-is}
 use Rattle.nodes.proofs.Shapes.{allIn, not-in, one-in, no-part, within, ends-within, skips-parts}
 use Rattle.nodes.proofs.Flat.{cover, no-statement, statements-are}
-use Rattle.nodes.proofs.Steps.{Walk, at-kind, walk-starts, walk-on, walk-all}
+use Rattle.nodes.proofs.Steps.{Walk, in-tree, at-kind, walk-starts, walk-on, walk-all}
 use Rattle.nodes.proofs.Until.{until-span, until-on}
 
 -- no statement, whose kind is 24 to 28, is a parameter or a clause
@@ -139,10 +139,10 @@ module _ {part : List ℕ} {b e to : ℕ} (H : Head part b e to) where
       pub head-skips : allIn ks parts ≡ true → {q : ℕ} → p < to → ((W : View part b) → q ≡ treeOf W .end p) → (W : View part b) (j : ℕ) → p < j → j < q → has (treeOf W .kind j) ks ≡ false
       head-skips al h d W = let l = w .sweep .low in let i = H .first .inside in let u = same-end W in skips-parts ks al W (H .here) (H .positive) (omega arith) (omega arith) (d W)
 
-      pub head-on : allIn ks parts ≡ true → {q : ℕ} → p < to → ((W : View part b) → q ≡ treeOf W .end p) → {o′ : List ℕ} {k′ : ℕ} → Added (λ x. at-kind view ks f x p) most o k o′ k′ → Walk view ks f (e + 1) to most o₀ k₀ o′ k′ q
+      pub head-on : allIn ks parts ≡ true → {q : ℕ} → p < to → ((W : View part b) → q ≡ treeOf W .end p) → {o′ : List ℕ} {k′ : ℕ} → Added (in-tree view) (λ x. at-kind view ks f x p) most o k o′ k′ → Walk view ks f (e + 1) to most o₀ k₀ o′ k′ q
       head-on al h d n = walk-on w n (head-moves h d) (λ y. head-skips al h d (view y))
 
-      pub head-done : allIn ks heads ≡ true → to ≤ p → Added (λ x. below (treeOf (view x)) ks e (f x)) (most * 2048) o₀ k₀ o k
+      pub head-done : allIn ks heads ≡ true → to ≤ p → Added (in-tree view) (λ x. below (treeOf (view x)) ks e (f x)) (most * 2048) o₀ k₀ o k
       head-done al h =
           walk-all w h
           (λ x.

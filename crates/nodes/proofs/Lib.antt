@@ -19,3 +19,4 @@ pub mod Until
 pub mod Head
 pub mod Admission
 pub mod Cursors
+pub mod Entries

@@ -54,6 +54,9 @@ module _ {part : List ℕ} {b p : ℕ} (W : View part b) (i : In part b p) where
   pub named-first : NameFirst (treeOf W .kind p) → In part b (p + 1) × (treeOf W .kind (p + 1) ≡ 23)
   named-first k = let f = child nameFirst 68 names-begin refl (k .0) (k .1) in (next-in (f .inside), name-kind _ (family-is 68 _ 1 refl refl (f .taken)))
 
+  pub name-inside : NameFirst (treeOf W .kind p) → p + 1 < treeOf W .end p
+  name-inside k = child nameFirst 68 names-begin refl (k .0) (k .1) .inside
+
   -- a node that begins with an expression
   pub first-inside : (k : ℕ) → treeOf W .kind p ≡ k → k < 46 → has k expressionFirst ≡ true → p + 1 < treeOf W .end p
   first-inside k e l h = child expressionFirst 816 expressions-begin refl (omega arith) (ap (λ (x : ℕ). has x expressionFirst) e ∙ h) .inside

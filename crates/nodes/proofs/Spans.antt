@@ -46,10 +46,10 @@ span-body B W e =
     (record { start = omega arith; order = omega arith; held = y; under = u }, a, l)
 
 -- a sweep over the whole of a part, with a rule that is asked at each node
-module _ {X : Type 0} {F : X → ℕ → List Rec} {part : List ℕ} {b : ℕ} {o₀ : List ℕ} {k₀ : ℕ} where
-  pub whole-starts : View part b → Span part b b (b + length part / 16) × Sweeping F b (b + length part / 16) 1 o₀ k₀ o₀ k₀ b
+module _ {X : Type 0} {e : X → ℕ → ℕ} {F : X → ℕ → List Rec} {part : List ℕ} {b : ℕ} {o₀ : List ℕ} {k₀ : ℕ} where
+  pub whole-starts : View part b → Span part b b (b + length part / 16) × Sweeping e F b (b + length part / 16) 1 o₀ k₀ o₀ k₀ b
   whole-starts W = let S = span-whole W (upto-is W) in (S, sweep-starts (S .order))
 
-  pub whole-swept : {o : List ℕ} {k p : ℕ} (view : X → View part b) → Span part b b (b + length part / 16) × Sweeping F b (b + length part / 16) 1 o₀ k₀ o k p → b + length part / 16 ≤ p
-      → Added (λ x. run (F x) b (view x .upto - b)) 2048 o₀ k₀ o k
+  pub whole-swept : {o : List ℕ} {k p : ℕ} (view : X → View part b) → Span part b b (b + length part / 16) × Sweeping e F b (b + length part / 16) 1 o₀ k₀ o k p → b + length part / 16 ≤ p
+      → Added e (λ x. run (F x) b (view x .upto - b)) 2048 o₀ k₀ o k
   whole-swept view i l = let u = i .0 .under in swept (i .1) l (λ x. ap (λ (u : ℕ). run (F x) b (u - b)) (upto-is (view x))) (omega arith)

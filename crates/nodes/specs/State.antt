@@ -6,6 +6,7 @@ use Rattle.rules.specs.Tree.{Tree}
 use Rattle.rules.specs.Vocabulary.{Rec}
 use Rattle.rules.specs.Model.{isState}
 use Rattle.records.specs.Words.{Lent, old}
+use Rattle.records.specs.Records.{Entered, on}
 use Rattle.nodes.specs.Shown.{View, treeOf}
 use Rattle.nodes.specs.Marks.{Marks}
 
@@ -14,5 +15,5 @@ pub record State (nodes : List ℕ) (base : ℕ) (state : List Bool) : Type 0 wh
   pub state-marks : Marks (view .image) (isState (treeOf view)) state
 
 -- what F says of the tree of these nodes
-abbrev pub seen : (Tree → List Rec) → (nodes : Lent (List ℕ)) (base : ℕ) (state : Lent (List Bool)) → State (old nodes) base (old state) → List Rec
-seen F nodes base state T = F (treeOf (T .view))
+abbrev pub seen : (Tree → List Rec) → (nodes : Lent (List ℕ)) (base : ℕ) (state : Lent (List Bool)) → State (old nodes) base (old state) → Entered
+seen F nodes base state T = on F (treeOf (T .view))

@@ -1,4 +1,4 @@
--- From the answer of admission to what is promised of a pass; the first record, from a buffer of three words; the parts of the list,
+-- From the answer of admission to what is promised of a pass; the first record, from a buffer of four words; the parts of the list,
 -- one after the other.
 use Prim.Native.Nat.{ℕ, suc, _+_, _*_, _-_, _^_, _≤_}
 use mathlib.Core.Path.{_≡_, refl, ap, _∙_, sym}
@@ -20,7 +20,7 @@ use Rattle.rules.specs.Vocabulary.{Rec}
 use Rattle.rules.specs.Resolve.{resolve}
 use Rattle.rules.specs.Access.{access}
 use Rattle.rules.specs.Linear.{linear}
-use Rattle.rules.specs.All.{offences}
+use Rattle.rules.specs.All.{offences, entryOf}
 use Rattle.rules.specs.Passes as passes
 use Rattle.rules.specs.Answers as rules
 use Rattle.rules.proofs.Answers.{refusal-most, length-words, pass-refused, pass-admitted}
@@ -34,21 +34,21 @@ use Rattle.passes.specs.declared.Pass.{Pass}
 use Rattle.passes.specs.declared.Pass.the-variants as pass
 use Rattle.passes.specs.Verdicts.{answerOf, verdictOf, Judged, recordsOf, verdictBy}
 
--- A pass: the first record, from a buffer of three words
+-- A pass: the first record, from a buffer of four words
 
 sets-out : (ws l : List ℕ) (i : ℕ) → length l ≤ i → sets l i ws ≡ l
 sets-out [] l i h = refl
 sets-out (w ∷ ws) l i h = ap (λ (m : List ℕ). sets m (suc i) ws) (set-out l i w h) ∙ sets-out ws l (suc i) (omega arith)
 
-pub first-none : (s : List ℕ) (l : List Rec) {o : List ℕ} {k : ℕ} → Laid (replicate 3 0) 0 l o k → k ≡ 0 → answer.Accepted ≡ verdictBy s l
+pub first-none : (s : List ℕ) {e : ℕ → ℕ} (l : List Rec) {o : List ℕ} {k : ℕ} → Laid e (replicate 4 0) 0 l o k → k ≡ 0 → answer.Accepted ≡ verdictBy s l
 first-none s [] L e = refl
-first-none s (r ∷ l) {o} {k} L e = let c : k ≡ 0 + suc (length l) = L .count in absurd (omega arith)
+first-none s (r ∷ l) {o} {k} L z = let c : k ≡ 0 + suc (length l) = L .count in absurd (omega arith)
 
-pub first-one : (s : List ℕ) (l : List Rec) {o : List ℕ} {k p f t : ℕ} → Laid (replicate 3 0) 0 l o k → (k ≡ 0 → ⊥)
+pub first-one : (s : List ℕ) {e : ℕ → ℕ} (l : List Rec) {o : List ℕ} {k p f t : ℕ} → Laid e (replicate 4 0) 0 l o k → (k ≡ 0 → ⊥)
     → p ≡ getD o 1 0 → f ≡ rules.spanFrom s p → t ≡ rules.spanTo s p → answer.Refused (getD o 0 0) (getD o 1 0) f t ≡ verdictBy s l
 first-one s [] {k = k} L n z x y = let c : k ≡ 0 + 0 = L .count in absurd (n (omega arith))
-first-one s (r ∷ l) {o} L n z x y =
-    let w : o ≡ r .code ∷ r .place ∷ r .related ∷ [] = L .words ∙ sets-out (words l) (r .code ∷ r .place ∷ r .related ∷ []) 3 (omega arith) in
+first-one s {e} (r ∷ l) {o} L n z x y =
+    let w : o ≡ r .code ∷ r .place ∷ r .related ∷ e (r .place) ∷ [] = L .words ∙ sets-out (words e l) (r .code ∷ r .place ∷ r .related ∷ e (r .place) ∷ []) 4 (omega arith) in
     rw (x, y, z, w)
 
 case-image : (r : ℕ) → (r ≡ 0 → ⊥) → r ≤ 8 → answer.Image r ≡ verdictOf (rules.imageRefused r)
@@ -100,7 +100,7 @@ judged-admitted pass.Linear s e f = judged-by passes.linearity s (omega arith) e
 
 -- what each pass lists is what `list_with` promises
 pub listed-by : {X : Type 0} (t : X → Tree) {p q : Pass} (most : ℕ) {o o′ : List ℕ} {k : ℕ} → p ≡ q → most ≤ 2 ^ 38
-    → Added (λ x. recordsOf q (t x)) most o 0 o′ k → Added (λ x. recordsOf p (t x)) (2 ^ 38) o 0 o′ k
+    → Added (λ x. entryOf (t x)) (λ x. recordsOf q (t x)) most o 0 o′ k → Added (λ x. entryOf (t x)) (λ x. recordsOf p (t x)) (2 ^ 38) o 0 o′ k
 listed-by t most e h a = record { laid = λ x. rw e (a .laid x); few = let f = a .few in omega arith }
 
 -- how many records the three passes have
@@ -112,39 +112,39 @@ offences-many t = let a = length-append (resolve t) (access t ++ linear t) in le
 sets-in : (w o : List ℕ) (i : ℕ) → i + length w ≤ length o → sets o i w ≡ take i o ++ (w ++ drop (i + length w) o)
 sets-in w o i h = sets-eq w o i h ∙ append-assoc (take i o) w (drop (i + length w) o)
 
-module _ (o : List ℕ) (k i e : ℕ) {l : List Rec} {v : List ℕ} {n : ℕ} (p : i ≡ 3 * k) (q : e ≡ length o) (h : 3 * (k + length l) ≤ length o) where
-  laid-rest : Laid (take (e - i) (drop i o)) 0 l v n → Laid o k l (take i o ++ (v ++ drop (e - i) (drop i o))) (k + n)
+module _ (d : ℕ → ℕ) (o : List ℕ) (k i e : ℕ) {l : List Rec} {v : List ℕ} {n : ℕ} (p : i ≡ 4 * k) (q : e ≡ length o) (h : 4 * (k + length l) ≤ length o) where
+  laid-rest : Laid d (take (e - i) (drop i o)) 0 l v n → Laid d o k l (take i o ++ (v ++ drop (e - i) (drop i o))) (k + n)
   laid-rest L =
-      let w = words l in
-      let d = length-drop i o in
-      let m = length-words l in
+      let w = words d l in
+      let b = length-drop i o in
+      let m = length-words d l in
       let whole : take (e - i) (drop i o) ≡ drop i o = take-all (e - i) (drop i o) (omega arith) in
       let over : drop (e - i) (drop i o) ≡ [] = drop-of-length-le (drop i o) {i = e - i} (omega arith) in
-      let z : i + (0 + length w) ≡ 3 * k + length w = omega arith in
+      let z : i + (0 + length w) ≡ 4 * k + length w = omega arith in
       record {
         count = let c = L .count in omega arith;
         words =
             ap (λ (r : List ℕ). take i o ++ (v ++ r)) over
             ∙ ap (λ (r : List ℕ). take i o ++ r) (append-nil v ∙ L .words ∙ ap (λ (r : List ℕ). sets r 0 w) whole ∙ sets-in w (drop i o) 0 (omega arith))
             ∙ ap (λ (r : List ℕ). take i o ++ (w ++ r)) (drop-drop (0 + length w) i o ∙ ap (λ (j : ℕ). drop j o) z)
-            ∙ ap (λ (j : ℕ). take j o ++ (w ++ drop (3 * k + length w) o)) p ∙ sym (sets-in w o (3 * k) (omega arith));
+            ∙ ap (λ (j : ℕ). take j o ++ (w ++ drop (4 * k + length w) o)) p ∙ sym (sets-in w o (4 * k) (omega arith));
       }
 
-  pub added-rest : {most : ℕ} → Added (λ (_ : Unit {0}). l) most (take (e - i) (drop i o)) 0 v n
-      → Added (λ (_ : Unit {0}). l) most o k (take i o ++ (v ++ drop (e - i) (drop i o))) (k + n)
+  pub added-rest : {most : ℕ} → Added (λ (_ : Unit {0}). d) (λ _. l) most (take (e - i) (drop i o)) 0 v n
+      → Added (λ (_ : Unit {0}). d) (λ _. l) most o k (take i o ++ (v ++ drop (e - i) (drop i o))) (k + n)
   added-rest a = let f = a .few in record { laid = λ x. laid-rest (a .laid x); few = omega arith }
 
 -- so the passes, one after the other: each has room, and together they lay the whole list
-module _ (t : Tree) (o : List ℕ) (h : 3 * length (offences t) ≤ length o) where
-  pub room-resolve : 3 * (0 + length (resolve t)) ≤ length o
+module _ (t : Tree) (o : List ℕ) (h : 4 * length (offences t) ≤ length o) where
+  pub room-resolve : 4 * (0 + length (resolve t)) ≤ length o
   room-resolve = let n = offences-many t in omega arith
 
-  module _ {m : ℕ} {o₁ : List ℕ} {a : ℕ} (A : Added (λ (_ : Unit {0}). resolve t) m o 0 o₁ a) where
-    pub room-access : 3 * (a + length (access t)) ≤ length o₁
+  module _ {m : ℕ} {o₁ : List ℕ} {a : ℕ} (A : Added (λ (_ : Unit {0}). entryOf t) (λ _. resolve t) m o 0 o₁ a) where
+    pub room-access : 4 * (a + length (access t)) ≤ length o₁
     room-access = let n = offences-many t in let l = laid-long (A .laid tt) in let c = A .laid tt .count in omega arith
 
-    module _ {m′ : ℕ} {o₂ : List ℕ} {b : ℕ} (B : Added (λ (_ : Unit {0}). access t) m′ o₁ a o₂ b) where
-      pub room-linear : 3 * (b + length (linear t)) ≤ length o₂
+    module _ {m′ : ℕ} {o₂ : List ℕ} {b : ℕ} (B : Added (λ (_ : Unit {0}). entryOf t) (λ _. access t) m′ o₁ a o₂ b) where
+      pub room-linear : 4 * (b + length (linear t)) ≤ length o₂
       room-linear =
           let n = offences-many t in
           let l = laid-long (B .laid tt) ∙ laid-long (A .laid tt) in
@@ -152,6 +152,6 @@ module _ (t : Tree) (o : List ℕ) (h : 3 * length (offences t) ≤ length o) wh
           let d = B .laid tt .count in
           omega arith
 
-      pub laid-all : {m″ : ℕ} {o₃ : List ℕ} {c : ℕ} → Added (λ (_ : Unit {0}). linear t) m″ o₂ b o₃ c → Laid o 0 (offences t) o₃ c
+      pub laid-all : {m″ : ℕ} {o₃ : List ℕ} {c : ℕ} → Added (λ (_ : Unit {0}). entryOf t) (λ _. linear t) m″ o₂ b o₃ c → Laid (entryOf t) o 0 (offences t) o₃ c
       unfolding offences
       laid-all C = laid-join (A .laid tt) (laid-join (B .laid tt) (C .laid tt))

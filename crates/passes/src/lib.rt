@@ -4,16 +4,16 @@ use names::Words;
 use nodes::Marks;
 ghost use mathlib.Core.Path.{_≡_};
 ghost use mathlib.Core.List.{List};
-ghost use Prim.Native.Nat.{_+_, _*_, _≤_, _^_};
+ghost use Prim.Native.Nat.{ℕ, _+_, _*_, _≤_, _^_};
 ghost use lib.ListN.{length, replicate};
 ghost use Rattle.rules.specs.Vocabulary.{Rec};
 ghost use Rattle.rules.specs.Tree.{tree};
 ghost use Rattle.rules.specs.Resolve.{resolve};
 ghost use Rattle.rules.specs.Access.{access};
 ghost use Rattle.rules.specs.Linear.{linear};
-ghost use Rattle.rules.specs.All.{offences};
+ghost use Rattle.rules.specs.All.{offences, entryOf};
 ghost use Rattle.records.specs.Words.{old, new};
-ghost use Rattle.records.specs.Records.{Laid, Adds};
+ghost use Rattle.records.specs.Records.{Laid, Adds, on};
 ghost use Rattle.nodes.specs.Shown.{Admitted};
 ghost use Rattle.names.specs.Spelled.{Looked, looked};
 ghost use Rattle.passes.specs.Lookups.{LookedUp};
@@ -53,7 +53,7 @@ fn list_with(pass: Pass, nodes: &[u8], words: Words, state: &Marks, out: &mut [u
 // The same for an admitted image, with look-ups of its own.
 pub fn list_of(pass: Pass, image: &[u8], head: Image, out: &mut [u16]) -> usize
     requires { ⌜ Admitted (now image) head ⌝ }
-    ensures { λ r. ⌜ Adds (λ (_ : Unit {0}). recordsOf pass (tree (old image))) (2 ^ 38) out 0 r ⌝ }
+    ensures { λ r. ⌜ Adds (λ (_ : Unit {0}). on (recordsOf pass) (tree (old image))) (2 ^ 38) out 0 r ⌝ }
 {
     let nodes = nodes::area(image, head);
     let words = names::find_words(image, head);
@@ -68,10 +68,10 @@ fn wide(w: u16) -> usize
     w as usize
 }
 
-// The verdict, from the first record of a list that was written into three words.
+// The verdict, from the first record of a list that was written into four words.
 fn judge(image: &[u8], head: Image, out: &[u16], count: usize) -> Verdict
-    requires { ⌜ Admitted (now image) head × (length (now out) ≡ 3) ⌝ }
-    ensures { λ r. ⌜ ((l : List Rec) → Laid (replicate 3 0) 0 l (old out) count → r ≡ verdictBy (old image) l) ⌝ }
+    requires { ⌜ Admitted (now image) head × (length (now out) ≡ 4) ⌝ }
+    ensures { λ r. ⌜ ((e : ℕ → ℕ) (l : List Rec) → Laid e (replicate 4 0) 0 l (old out) count → r ≡ verdictBy (old image) l) ⌝ }
 {
     if count == 0 {
         return Verdict::Accepted;
@@ -101,7 +101,7 @@ fn first_with(
     requires { ⌜ LookedUp (now image) head (now nodes) words (now state) ⌝ }
     ensures { λ r. ⌜ Judged (recordsOf pass) (old image) r ⌝ }
 {
-    let mut out = [0u16; 3];
+    let mut out = [0u16; 4];
     let count = list_with(pass, nodes, words, state, &mut out);
     judge(image, head, &out, count)
 }
@@ -111,7 +111,7 @@ pub fn first_of(pass: Pass, image: &[u8], head: Image) -> Verdict
     requires { ⌜ Admitted (now image) head ⌝ }
     ensures { λ r. ⌜ Judged (recordsOf pass) (old image) r ⌝ }
 {
-    let mut out = [0u16; 3];
+    let mut out = [0u16; 4];
     let count = list_of(pass, image, head, &mut out);
     judge(image, head, &out, count)
 }
@@ -164,10 +164,10 @@ pub fn count_all(image: &[u8], head: Image) -> usize
 
 // The records of a pass after `count` others, written into the rest of the buffer from where those stop.
 fn list_after(pass: Pass, image: &[u8], head: Image, words: &mut [u16], count: usize) -> usize
-    requires { ⌜ Admitted (now image) head × (3 * (count + length (recordsOf pass (tree (now image)))) ≤ length (now words)) ⌝ }
-    ensures { λ r. ⌜ Adds (λ (_ : Unit {0}). recordsOf pass (tree (old image))) (2 ^ 38) words count r ⌝ }
+    requires { ⌜ Admitted (now image) head × (4 * (count + length (recordsOf pass (tree (now image)))) ≤ length (now words)) ⌝ }
+    ensures { λ r. ⌜ Adds (λ (_ : Unit {0}). on (recordsOf pass) (tree (old image))) (2 ^ 38) words count r ⌝ }
 {
-    let start = 3 * count;
+    let start = 4 * count;
     let end = words.len();
     let more = list_of(pass, image, head, &mut words[start..end]);
     count + more
@@ -175,8 +175,8 @@ fn list_after(pass: Pass, image: &[u8], head: Image, words: &mut [u16], count: u
 
 // The records of all passes, each from where the last one stopped.
 pub fn fill(image: &[u8], head: Image, words: &mut [u16]) -> usize
-    requires { ⌜ Admitted (now image) head × (3 * length (offences (tree (now image))) ≤ length (now words)) ⌝ }
-    ensures { λ r. ⌜ Laid (old words) 0 (offences (tree (old image))) (new words) r ⌝ }
+    requires { ⌜ Admitted (now image) head × (4 * length (offences (tree (now image))) ≤ length (now words)) ⌝ }
+    ensures { λ r. ⌜ Laid (entryOf (tree (old image))) (old words) 0 (offences (tree (old image))) (new words) r ⌝ }
 {
     let resolve = list_after(Pass::Resolve, image, head, words, 0);
     let access = list_after(Pass::Access, image, head, words, resolve);

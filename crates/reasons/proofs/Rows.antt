@@ -4,30 +4,21 @@ use mathlib.Core.Path.{_≡_, refl, ap, _∙_}
 use mathlib.Core.List.{List, [], _∷_, List·Memᴰ·head, List·Memᴰ·tail, List·Memᴰ·eq-of-singleton}
 use mathlib.Core.Logic.{inl, ⊎-elim}
 use native.Mathlib.Omega.{arith}
-use borrow.Author.Tests.{eq-eqb, ne-eqb}
 use lib.ListN.{length}
 use Rattle.image.specs.Admit.{refusal, nodeCount}
 use Rattle.image.proofs.Decide.{lt-or-ge}
 use Rattle.image.proofs.Given.{given}
 use Rattle.rules.specs.Tree.{Tree, tree, entry}
 use Rattle.rules.specs.Vocabulary.{Below, AllOf}
-use Rattle.rules.specs.Linear.{Row, Mark, Use, placeOf}
+use Rattle.rules.specs.Linear.{Row, Mark, Use}
 use Rattle.rules.specs.Standing.{Formed}
+use Rattle.rules.proofs.Linear.{let-place, param-place}
 use Rattle.rules.proofs.Admitted.{admitted}
 use Rattle.rules.proofs.Linear.{row-below}
 use Rattle.rules.proofs.Ranges.{deep, ends-in, item-ends, items-follow, parts-follow}
 use Rattle.reasons.specs.Reasons.{TrackedAt}
 
 module _ (t : Tree) where
-  -- a Let stands at its own place, a parameter's is its Name
-  let-place : (x : ℕ) → t .kind x ≡ 25 → placeOf t x ≡ x
-  unfolding placeOf
-  let-place x k = simp (eq-eqb (t .kind x) 25 k)
-
-  param-place : (x : ℕ) → t .kind x ≡ 10 → placeOf t x ≡ x + 1
-  unfolding placeOf
-  param-place x k = simp (ne-eqb (t .kind x) 25 (λ d. omega arith))
-
   module _ (F : Formed t) where
     -- where a row's place stands: at the row or behind it, before the row's end
     record At (e x p : ℕ) : Type 0 where
@@ -42,14 +33,14 @@ module _ (t : Tree) where
         ⊎-elim
         (λ a.
         let b = a .0 in
-        let d = param-place x (List·Memᴰ·eq-of-singleton (b .kind)) in
+        let d = param-place t x (λ k. let n : t .kind x ≡ 10 = List·Memᴰ·eq-of-singleton (b .kind) in omega arith) in
         let l = F .param-long x (deep t F (r .0) b) in
         let n = ends-in t F (r .0) b in
         let q = r .2 in
         record { after = b .after; from = omega arith; near = omega arith; before = omega arith; inside = omega arith })
         (λ a.
         let b = a .0 in
-        let d = let-place x (List·Memᴰ·eq-of-singleton (b .kind)) in
+        let d = let-place t x (List·Memᴰ·eq-of-singleton (b .kind)) in
         let w = deep t F (r .0) b in
         let g = w .after in
         let l = F .past x (omega arith) (w .inside) in

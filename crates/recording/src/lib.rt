@@ -6,6 +6,8 @@ mod tell;
 
 pub use list::Part;
 pub use list::Parts;
+pub use list::RECORD_BYTES;
+pub use list::RECORD_WORDS;
 pub use list::part_of;
 pub use list::parts_of;
 pub use list::records_differ;

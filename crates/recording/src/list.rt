@@ -7,12 +7,18 @@ ghost use mathlib.Core.Path.{_≡_};
 ghost use Prim.Native.Nat.{_+_, _*_, _≤_};
 ghost use lib.ListN.{length};
 ghost use Rattle.records.specs.Words.{old};
-ghost use Rattle.recording.specs.Told.{numbers, Within, partsOf, recordAt, recordIn, difference, otherRecords, listDifferences, runBelow};
+ghost use Rattle.recording.specs.Told.{numbers, difference, recordWords, recordBytes, recordAt, recordIn, Within};
+ghost use Rattle.recording.specs.Told.{otherRecords, listDifferences, runBelow, partsOf};
 
 // Codes below 50 are resolve's, from there to 59 access's, and the rest linear's.
 const ACCESS: usize = 50;
 
 const LINEAR: usize = 60;
+
+// A record is four words: code, place, related and entry. Each is two bytes in the file.
+pub const RECORD_WORDS: usize = 4;
+
+pub const RECORD_BYTES: usize = 2 * RECORD_WORDS;
 
 // Some of the recorded records: where they start, and how many.
 pub struct Part {
@@ -34,30 +40,32 @@ pub fn part_of(at: usize, count: usize) -> Part
 }
 
 // A list's refusal and how many records it has, with one of them beside.
-fn with_record(head: Numbers, code: usize, place: usize, related: usize) -> Numbers
-    ensures { λ r. ⌜ r ≡ numbers (head .0) (head .1) code place related ⌝ }
+fn with_record(head: Numbers, code: usize, place: usize, related: usize, entry: usize) -> Numbers
+    ensures { λ r. ⌜ r ≡ numbers (head .0) (head .1) code place related entry ⌝ }
 {
-    Numbers(head.0, head.1, code, place, related)
+    Numbers(head.0, head.1, code, place, related, entry)
 }
 
 fn recorded_with(file: &[u8], at: usize, head: Numbers) -> Numbers
-    requires { ⌜ at + 6 ≤ length (now file) ⌝ }
+    requires { ⌜ at + recordBytes ≤ length (now file) ⌝ }
     ensures { λ r. ⌜ r ≡ recordAt (old file) at head ⌝ }
 {
     let code = read::u16_at(file, at);
     let place = read::u16_at(file, at + 2);
     let related = read::u16_at(file, at + 4);
-    with_record(head, code, place, related)
+    let entry = read::u16_at(file, at + 6);
+    with_record(head, code, place, related, entry)
 }
 
 fn answered_with(words: &[u16], k: usize, head: Numbers) -> Numbers
-    requires { ⌜ k + 3 ≤ length (now words) ⌝ }
+    requires { ⌜ k + recordWords ≤ length (now words) ⌝ }
     ensures { λ r. ⌜ r ≡ recordIn (old words) k head ⌝ }
 {
     let code = read::wide_u16(words[k]);
     let place = read::wide_u16(words[k + 1]);
     let related = read::wide_u16(words[k + 2]);
-    with_record(head, code, place, related)
+    let entry = read::wide_u16(words[k + 3]);
+    with_record(head, code, place, related, entry)
 }
 
 // A recorded record against the one of an answer: 1 where they differ, which is told.
@@ -70,7 +78,7 @@ fn record_differs(
     k: usize,
     head: Numbers,
 ) -> usize
-    requires { ⌜ (at + 6 ≤ length (now file)) × (k + 3 ≤ length (now words)) ⌝ }
+    requires { ⌜ (at + recordBytes ≤ length (now file)) × (k + recordWords ≤ length (now words)) ⌝ }
     ensures { λ r. ⌜ (r ≡ difference (recordAt (old file) at head) (recordIn (old words) k head)) × (r ≤ 1) ⌝ }
 {
     let recorded = recorded_with(file, at, head);
@@ -80,14 +88,22 @@ fn record_differs(
 
 // How many of the recorded records, as many as `head` says, are not the answer's.
 fn others(case: Case, asked: &[u8], file: &[u8], at: usize, words: &[u16], head: Numbers) -> usize
-    requires { ⌜ (at + 6 * head .1 ≤ length (now file)) × (3 * head .1 ≤ length (now words)) ⌝ }
+    requires { ⌜ (at + recordBytes * head .1 ≤ length (now file)) × (recordWords * head .1 ≤ length (now words)) ⌝ }
     ensures { λ r. ⌜ (r ≡ otherRecords (old file) at head (old words) (head .1)) × (r ≤ head .1) ⌝ }
 {
     let count = head.1;
     let mut differ = 0;
     let mut i = 0;
     while i < count {
-        differ += record_differs(case, asked, file, at + 6 * i, words, 3 * i, head);
+        differ += record_differs(
+            case,
+            asked,
+            file,
+            at + RECORD_BYTES * i,
+            words,
+            RECORD_WORDS * i,
+            head,
+        );
         i += 1;
     }
     differ
@@ -95,12 +111,12 @@ fn others(case: Case, asked: &[u8], file: &[u8], at: usize, words: &[u16], head:
 
 // How many records the list starts with whose codes are below `code`.
 fn run_below(file: &[u8], at: usize, count: usize, code: usize) -> usize
-    requires { ⌜ at + 6 * count ≤ length (now file) ⌝ }
+    requires { ⌜ at + recordBytes * count ≤ length (now file) ⌝ }
     ensures { λ r. ⌜ (r ≡ runBelow (old file) at code count) × (r ≤ count) ⌝ }
 {
     let mut i = 0;
     while i < count {
-        if code <= read::u16_at(file, at + 6 * i) {
+        if code <= read::u16_at(file, at + RECORD_BYTES * i) {
             return i;
         }
         i += 1;
@@ -110,17 +126,17 @@ fn run_below(file: &[u8], at: usize, count: usize, code: usize) -> usize
 
 // Each pass's part of a list.
 pub fn parts_of(file: &[u8], at: usize, count: usize) -> Parts
-    requires { ⌜ at + 6 * count ≤ length (now file) ⌝ }
+    requires { ⌜ at + recordBytes * count ≤ length (now file) ⌝ }
     ensures { λ r. ⌜ r ≡ partsOf (old file) at count ⌝ }
     ensures { λ r. ⌜ Within (old file) (r .resolve) × Within (old file) (r .access) × Within (old file) (r .linear) ⌝ }
 {
     let n = run_below(file, at, count, ACCESS);
-    let then = at + 6 * n;
+    let then = at + RECORD_BYTES * n;
     let rest = count - n;
     let m = run_below(file, then, rest, LINEAR);
     let resolve = part_of(at, n);
     let access = part_of(then, m);
-    let linear = part_of(then + 6 * m, rest - m);
+    let linear = part_of(then + RECORD_BYTES * m, rest - m);
     Parts {
         resolve,
         access,
@@ -137,10 +153,10 @@ pub fn records_differ(
     answer: Numbers,
     words: &[u16],
 ) -> usize
-    requires { ⌜ Within (now file) part × (3 * part .count ≤ length (now words)) ⌝ }
+    requires { ⌜ Within (now file) part × (recordWords * part .count ≤ length (now words)) ⌝ }
     ensures { λ r. ⌜ (r ≡ listDifferences (case .refusal) (old file) part answer (old words)) × (r ≤ part .count + 1) ⌝ }
 {
-    let head = Numbers(case.refusal, part.count, 0, 0, 0);
+    let head = Numbers(case.refusal, part.count, 0, 0, 0, 0);
     let first = tell::differs(case, asked, head, answer);
     first + others(case, asked, file, part.at, words, head)
 }

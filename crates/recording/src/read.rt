@@ -55,5 +55,5 @@ pub fn verdict_at(s: &[u8], at: usize, refusal: usize) -> Numbers
     let place = u16_at(s, at + 2);
     let from = u32_at(s, at + 4);
     let to = u32_at(s, at + 8);
-    Numbers(refusal, code, place, from, to)
+    Numbers(refusal, code, place, from, to, 0)
 }

@@ -7,7 +7,9 @@ use lib.ListN.{length}
 use native.Mathlib.Nat.{sub-self}
 use native.Mathlib.Numerals.{add-one, unary-clauses}
 use native.Mathlib.Omega.{arith}
-use borrow.Author.Tests.{eq-eqb, ne-eqb}
+use mathlib.Core.Logic.{_⊎_, inl, inr}
+use borrow.Author.Tests.{eq-eqb, ne-eqb, eqb-true, eqb-false}
+use lib.Dec.{eqb}
 use Rattle.rules.specs.Sweep.{run, keep, has}
 use Rattle.rules.specs.Tree.{Tree}
 use Rattle.rules.specs.Vocabulary.{Rec, only, below}
@@ -74,11 +76,11 @@ pub record Follows {A : Type 0} (L : List ℕ → ℕ → List A → List ℕ �
   pub join : {o₀ o₁ o₂ : List ℕ} {k₀ k₁ k₂ : ℕ} {a b : List A} → L o₀ k₀ a o₁ k₁ → L o₁ k₁ b o₂ k₂ → L o₀ k₀ (a ++ b) o₂ k₂
 
 -- The invariant of every sweep: the nodes from `from` up to p have contributed F, each at most `most`, whichever x the nodes are seen by (an image; an image and an entry; ..).
-pub record Sweeps {A : Type 0} (L : List ℕ → ℕ → List A → List ℕ → ℕ → Type 0) {X : Type 0} (F : X → ℕ → List A) (from to most : ℕ) (o₀ : List ℕ) (k₀ : ℕ) (o : List ℕ) (k p : ℕ) : Type 0 where
+pub record Sweeps {A X : Type 0} (L : X → List ℕ → ℕ → List A → List ℕ → ℕ → Type 0) (F : X → ℕ → List A) (from to most : ℕ) (o₀ : List ℕ) (k₀ : ℕ) (o : List ℕ) (k p : ℕ) : Type 0 where
   pub low : from ≤ p
   pub high : p ≤ to
   pub few : k ≤ k₀ + most * (p - from)
-  pub laid : (x : X) → L o₀ k₀ (run (F x) from (p - from)) o k
+  pub laid : (x : X) → L x o₀ k₀ (run (F x) from (p - from)) o k
 
 more : (most d m : ℕ) → d < m → most * d + most ≤ most * m
 more most d (suc m) h = let z : d ≤ m = omega arith in let y : most * suc m ≡ most * m + most = simp unary-clauses (omega arith) in go most d m z y
@@ -96,17 +98,17 @@ more most d (suc m) h = let z : d ≤ m = omega arith in let y : most * suc m �
             omega arith
 more most d zero h = absurd (omega arith)
 
-module _ {A : Type 0} {L : List ℕ → ℕ → List A → List ℕ → ℕ → Type 0} (follows : Follows L) {X : Type 0} {F : X → ℕ → List A} {from to most : ℕ} {o₀ : List ℕ} {k₀ : ℕ} where
+module _ {A X : Type 0} {L : X → List ℕ → ℕ → List A → List ℕ → ℕ → Type 0} (follows : (x : X) → Follows (L x)) {F : X → ℕ → List A} {from to most : ℕ} {o₀ : List ℕ} {k₀ : ℕ} where
   pub sweeps-start : from ≤ to → Sweeps L F from to most o₀ k₀ o₀ k₀ from
   sweeps-start h = record {
     low = omega arith;
     high = h;
     few = omega arith;
-    laid = λ x. rw (sub-self from) (rw run-none (follows .none o₀ k₀));
+    laid = λ x. rw (sub-self from) (rw run-none (follows x .none o₀ k₀));
   }
 
   -- on to q, past nodes that contribute nothing: the next child
-  pub sweeps-on : {o o′ : List ℕ} {k k′ p q : ℕ} → Sweeps L F from to most o₀ k₀ o k p → k′ ≤ k + most → ((x : X) → L o k (F x p) o′ k′)
+  pub sweeps-on : {o o′ : List ℕ} {k k′ p q : ℕ} → Sweeps L F from to most o₀ k₀ o k p → k′ ≤ k + most → ((x : X) → L x o k (F x p) o′ k′)
       → p < q → q ≤ to → ((x : X) (i : ℕ) → p < i → i < q → F x i ≡ []) → Sweeps L F from to most o₀ k₀ o′ k′ q
   sweeps-on {o} {o′} {k} {k′} {p} {q} w f a g h z =
       let i = w .low in
@@ -116,43 +118,43 @@ module _ {A : Type 0} {L : List ℕ → ℕ → List A → List ℕ → ℕ → 
         low = omega arith;
         high = h;
         few = omega arith;
-        laid = λ x. rw (run-on (F x) from p q i g (z x)) (follows .join (w .laid x) (a x));
+        laid = λ x. rw (run-on (F x) from p q i g (z x)) (follows x .join (w .laid x) (a x));
       }
 
-  pub sweeps-again : {o o′ : List ℕ} {k k′ p : ℕ} → Sweeps L F from to most o₀ k₀ o k p → k′ ≤ k + most → ((x : X) → L o k (F x p) o′ k′) → p < to
+  pub sweeps-again : {o o′ : List ℕ} {k k′ p : ℕ} → Sweeps L F from to most o₀ k₀ o k p → k′ ≤ k + most → ((x : X) → L x o k (F x p) o′ k′) → p < to
       → Sweeps L F from to most o₀ k₀ o′ k′ (p + 1)
   sweeps-again w f a h = sweeps-on w f a (omega arith) (omega arith) (λ x i b c. absurd (omega arith))
 
-  pub sweeps-done : {o : List ℕ} {k p : ℕ} → Sweeps L F from to most o₀ k₀ o k p → to ≤ p → (k ≤ k₀ + most * (to - from)) × ((x : X) → L o₀ k₀ (run (F x) from (to - from)) o k)
+  pub sweeps-done : {o : List ℕ} {k p : ℕ} → Sweeps L F from to most o₀ k₀ o k p → to ≤ p → (k ≤ k₀ + most * (to - from)) × ((x : X) → L x o₀ k₀ (run (F x) from (to - from)) o k)
   sweeps-done {o} {k} {p} w h = let i = w .high in let e : p ≡ to = omega arith in (rw e at (w .few), λ x. rw e at (w .laid x))
 
--- of a list's records
-abbrev pub Sweeping : {X : Type 0} (F : X → ℕ → List Rec) (from to most : ℕ) (o₀ : List ℕ) (k₀ : ℕ) (o : List ℕ) (k p : ℕ) → Type 0
-Sweeping F from to most o₀ k₀ o k p = Sweeps Laid F from to most o₀ k₀ o k p
+-- of a list's records, with the entries that e gives
+abbrev pub Sweeping : {X : Type 0} (e : X → ℕ → ℕ) (F : X → ℕ → List Rec) (from to most : ℕ) (o₀ : List ℕ) (k₀ : ℕ) (o : List ℕ) (k p : ℕ) → Type 0
+Sweeping e F from to most o₀ k₀ o k p = Sweeps (λ x. Laid (e x)) F from to most o₀ k₀ o k p
 
-laid-follows : Follows Laid
-laid-follows = record { none = laid-none; join = laid-join }
+laid-follows : (e : ℕ → ℕ) → Follows (Laid e)
+laid-follows e = record { none = laid-none; join = laid-join }
 
-module _ {X : Type 0} {F : X → ℕ → List Rec} {from to most : ℕ} {o₀ : List ℕ} {k₀ : ℕ} where
-  pub sweep-starts : from ≤ to → Sweeping F from to most o₀ k₀ o₀ k₀ from
-  sweep-starts h = sweeps-start laid-follows h
+module _ {X : Type 0} {e : X → ℕ → ℕ} {F : X → ℕ → List Rec} {from to most : ℕ} {o₀ : List ℕ} {k₀ : ℕ} where
+  pub sweep-starts : from ≤ to → Sweeping e F from to most o₀ k₀ o₀ k₀ from
+  sweep-starts h = sweeps-start (λ x. laid-follows (e x)) h
 
-  pub sweep-on : {o o′ : List ℕ} {k k′ p q : ℕ} → Sweeping F from to most o₀ k₀ o k p → Added (λ x. F x p) most o k o′ k′
-      → p < q → q ≤ to → ((x : X) (i : ℕ) → p < i → i < q → F x i ≡ []) → Sweeping F from to most o₀ k₀ o′ k′ q
-  sweep-on w a g h z = sweeps-on laid-follows w (a .few) (a .laid) g h z
+  pub sweep-on : {o o′ : List ℕ} {k k′ p q : ℕ} → Sweeping e F from to most o₀ k₀ o k p → Added e (λ x. F x p) most o k o′ k′
+      → p < q → q ≤ to → ((x : X) (i : ℕ) → p < i → i < q → F x i ≡ []) → Sweeping e F from to most o₀ k₀ o′ k′ q
+  sweep-on w a g h z = sweeps-on (λ x. laid-follows (e x)) w (a .few) (a .laid) g h z
 
-  pub sweep-again : {o o′ : List ℕ} {k k′ p : ℕ} → Sweeping F from to most o₀ k₀ o k p → Added (λ x. F x p) most o k o′ k′ → p < to
-      → Sweeping F from to most o₀ k₀ o′ k′ (p + 1)
-  sweep-again w a h = sweeps-again laid-follows w (a .few) (a .laid) h
+  pub sweep-again : {o o′ : List ℕ} {k k′ p : ℕ} → Sweeping e F from to most o₀ k₀ o k p → Added e (λ x. F x p) most o k o′ k′ → p < to
+      → Sweeping e F from to most o₀ k₀ o′ k′ (p + 1)
+  sweep-again w a h = sweeps-again (λ x. laid-follows (e x)) w (a .few) (a .laid) h
 
-  pub sweep-done : {o : List ℕ} {k p : ℕ} → Sweeping F from to most o₀ k₀ o k p → to ≤ p → (x : X) → Laid o₀ k₀ (run (F x) from (to - from)) o k
-  sweep-done w h = sweeps-done laid-follows w h .1
+  pub sweep-done : {o : List ℕ} {k p : ℕ} → Sweeping e F from to most o₀ k₀ o k p → to ≤ p → (x : X) → Laid (e x) o₀ k₀ (run (F x) from (to - from)) o k
+  sweep-done w h = sweeps-done (λ x. laid-follows (e x)) w h .1
 
   -- what the whole of it adds
-  pub swept : {G : X → List Rec} {all : ℕ} {o : List ℕ} {k p : ℕ} → Sweeping F from to most o₀ k₀ o k p → to ≤ p → ((x : X) → run (F x) from (to - from) ≡ G x) → most * (to - from) ≤ all → Added G all o₀ k₀ o k
-  swept w h g m = let f = sweeps-done laid-follows w h .0 in record { laid = λ x. laid-as (g x) (sweep-done w h x); few = omega arith }
+  pub swept : {G : X → List Rec} {all : ℕ} {o : List ℕ} {k p : ℕ} → Sweeping e F from to most o₀ k₀ o k p → to ≤ p → ((x : X) → run (F x) from (to - from) ≡ G x) → most * (to - from) ≤ all → Added e G all o₀ k₀ o k
+  swept w h g m = let f = sweeps-done (λ x. laid-follows (e x)) w h .0 in record { laid = λ x. laid-as (g x) (sweep-done w h x); few = omega arith }
 
-  pub sweep-long : {o : List ℕ} {k p : ℕ} → Sweeping F from to most o₀ k₀ o k p → X → length o ≡ length o₀
+  pub sweep-long : {o : List ℕ} {k p : ℕ} → Sweeping e F from to most o₀ k₀ o k p → X → length o ≡ length o₀
   sweep-long w x = laid-long (w .laid x)
 
 -- One node's part in a sweep: the test of its kind.
@@ -164,15 +166,6 @@ pub has-not : (k j : ℕ) → (k ≡ j → ⊥) → has k (j ∷ []) ≡ false
 unfolding has
 has-not k j n = simp (ne-eqb k j n)
 
-module _ {o : List ℕ} {n : ℕ} {b : Bool} (f : ℕ → List Rec) (p : ℕ) where
-  pub laid-skip : b ≡ false → Laid o n (keep b f p) o n
-  unfolding keep
-  laid-skip e = rw e (laid-none o n)
-
-  pub laid-keep : {o′ : List ℕ} {n′ : ℕ} → b ≡ true → Laid o n (f p) o′ n′ → Laid o n (keep b f p) o′ n′
-  unfolding keep
-  laid-keep e l = rw e l
-
 pub keep-none : {A : Type 0} {b : Bool} (f : ℕ → List A) (p : ℕ) → b ≡ false → keep b f p ≡ []
 unfolding keep
 keep-none f p e = rw e
@@ -180,6 +173,14 @@ keep-none f p e = rw e
 pub keep-one : {A : Type 0} {b : Bool} (f : ℕ → List A) (p : ℕ) → b ≡ true → keep b f p ≡ f p
 unfolding keep
 keep-one f p e = rw e
+
+-- nothing is kept at a node of another kind; at one of this kind, P holds
+pub keep-or : {A P : Type 0} {k : ℕ} (j : ℕ) (f : ℕ → List A) (p : ℕ) → (k ≡ j → P) → (keep (has k (j ∷ [])) f p ≡ []) ⊎ P
+keep-or {A} {P} {k} j f p h = go (eqb k j) refl
+  where
+    go : (b : Bool) → eqb k j ≡ b → (keep (has k (j ∷ [])) f p ≡ []) ⊎ P
+    go true e = inr (h (eqb-true k j e))
+    go false e = inl (keep-none f p (has-not k j (eqb-false k j e)))
 
 -- a rule asked at a node of another kind; of its kind
 module _ {k j : ℕ} (f : ℕ → List Rec) (p : ℕ) (r : Rec) where

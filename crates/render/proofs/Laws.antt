@@ -13,8 +13,8 @@ use Rattle.image.specs.declared.Admission.the-variants.{Refused}
 use Rattle.image.proofs.Verdict.{refused-is}
 use Rattle.rules.specs.Sweep.{run}
 use Rattle.rules.specs.Tree.{tree}
-use Rattle.rules.specs.Vocabulary.{Rec, rec}
-use Rattle.rules.specs.All.{offences}
+use Rattle.rules.specs.Vocabulary.{Rec}
+use Rattle.rules.specs.All.{offences, entryOf}
 use Rattle.rules.specs.Spelling.{bytes}
 use Rattle.rules.specs.Resolve.{resolve}
 use Rattle.rules.specs.Access.{access}
@@ -29,7 +29,7 @@ use Rattle.typeck.specs.Face.{Stands, answerOf, listingOf, listedOf}
 use Rattle.nodes.proofs.Admission.{refused-number}
 use Rattle.lines.specs.Line.{digits, rest, Printed}
 use Rattle.lines.proofs.Laws.{wrote-join, wrote-as, few-five, few-ten, rest-length}
-use Rattle.render.specs.Report.{passLine, recordLine, recordLines, listLines, reportText, lineAt}
+use Rattle.render.specs.Report.{passLine, recordLine, recordLines, listLines, reportText, lineOf, lineAt}
 
 -- the line of a pass
 pub pass-is : (name : List ℕ) {v w : Verdict} {o o₁ o₂ : List ℕ} {at k r : ℕ} → v ≡ w → length name < 2 ^ 10 → Printed o at name o₁ k
@@ -42,19 +42,21 @@ pub line-few : {o o₁ o₂ a b t : List ℕ} {at k r : ℕ} (most : ℕ) → le
 line-few most l e W R = let n = W .count in let b = R .1 in (wrote-as e (wrote-join W (R .0)), omega arith)
 
 -- the line of a record
-pub record-is : (s : List ℕ) (code place related f t : ℕ) → f ≡ spanFrom s place → t ≡ spanTo s place
-    → digits 20 code ++ rest (place ∷ related ∷ f ∷ t ∷ []) ≡ recordLine s (rec code place related)
-record-is s code place related f t x y =
-    ap (λ (i : ℕ). digits 20 code ++ rest (place ∷ related ∷ i ∷ t ∷ [])) x ∙ ap (λ (i : ℕ). digits 20 code ++ rest (place ∷ related ∷ spanFrom s place ∷ i ∷ [])) y
+pub record-is : (s : List ℕ) (code place related entry f t : ℕ) → f ≡ spanFrom s place → t ≡ spanTo s place
+    → digits 20 code ++ ((32 ∷ digits 20 place) ++ rest (related ∷ entry ∷ f ∷ t ∷ [])) ≡ lineOf s code place related entry
+unfolding rest
+record-is s code place related entry f t x y = rw (x, y) refl
 
-pub record-few : (code place related f t : ℕ) → code < 65536 → place < 65536 → related < 65536 → f < 2 ^ 32 → t < 2 ^ 32
-    → length (digits 20 code ++ rest (place ∷ related ∷ f ∷ t ∷ [])) ≤ 40
-record-few code place related f t a b c d e =
-    let n = length-append (digits 20 code) (rest (place ∷ related ∷ f ∷ t ∷ [])) in
-    let r = rest-length place related f t in
+pub record-few : (code place related entry f t : ℕ) → code < 65536 → place < 65536 → related < 65536 → entry < 65536 → f < 2 ^ 32 → t < 2 ^ 32
+    → length (digits 20 code ++ ((32 ∷ digits 20 place) ++ rest (related ∷ entry ∷ f ∷ t ∷ []))) ≤ 46
+record-few code place related entry f t a b c d e g =
+    let n = length-append (digits 20 code) ((32 ∷ digits 20 place) ++ rest (related ∷ entry ∷ f ∷ t ∷ [])) in
+    let m = length-append (digits 20 place) (rest (related ∷ entry ∷ f ∷ t ∷ [])) in
+    let r = rest-length related entry f t in
     let u = few-five 20 code (omega arith) in
     let v = few-five 20 place (omega arith) in
     let w = few-five 20 related (omega arith) in
+    let z = few-five 20 entry (omega arith) in
     let x = few-ten 20 f (omega arith) in
     let y = few-ten 20 t (omega arith) in
     omega arith
@@ -63,41 +65,39 @@ record-few code place related f t a b c d e =
 run-one : {A : Type 0} (f : ℕ → List A) (k : ℕ) → run f k 1 ≡ f k
 run-one {A} f k = let e : k + 0 ≡ k = omega arith in run-next f k 0 ∙ ap (λ (l : List A). l ++ f (k + 0)) (run-none f k) ∙ ap f e
 
-rec-same : (r : Rec) {c p q : ℕ} → c ≡ r .code → p ≡ r .place → q ≡ r .related → rec c p q ≡ r
-rec-same r {c} {p} {q} x y z = ap (λ (i : ℕ). rec i p q) x ∙ ap (λ (i : ℕ). rec (r .code) i q) y ∙ ap (λ (i : ℕ). rec (r .code) (r .place) i) z
+line-same : (s : List ℕ) {c p q e c′ p′ q′ e′ : ℕ} → c ≡ c′ → p ≡ p′ → q ≡ q′ → e ≡ e′ → lineOf s c p q e ≡ lineOf s c′ p′ q′ e′
+line-same s x y z w = rw (x, y, z, w) refl
 
-pub lines-next : (s w : List ℕ) (i : ℕ) {c p q : ℕ} → c ≡ getD w (3 * i) 0 → p ≡ getD w (3 * i + 1) 0 → q ≡ getD w (3 * i + 2) 0
-    → run (lineAt s w) 0 i ++ recordLine s (rec c p q) ≡ run (lineAt s w) 0 (i + 1)
-lines-next s w i x y z =
+pub lines-next : (s w : List ℕ) (i : ℕ) {c p q e : ℕ} → c ≡ getD w (4 * i) 0 → p ≡ getD w (4 * i + 1) 0 → q ≡ getD w (4 * i + 2) 0 → e ≡ getD w (4 * i + 3) 0
+    → run (lineAt s w) 0 i ++ lineOf s c p q e ≡ run (lineAt s w) 0 (i + 1)
+lines-next s w i x y z u =
     let n : i ≡ 0 + i = omega arith in
-    ap (λ (r : Rec). run (lineAt s w) 0 i ++ recordLine s r) (rec-same (rec (getD w (3 * i) 0) (getD w (3 * i + 1) 0) (getD w (3 * i + 2) 0)) x y z)
-    ∙ ap (λ (j : ℕ). run (lineAt s w) 0 i ++ lineAt s w j) n ∙ sym (run-next (lineAt s w) 0 i)
+    ap (λ (l : List ℕ). run (lineAt s w) 0 i ++ l) (line-same s x y z u) ∙ ap (λ (j : ℕ). run (lineAt s w) 0 i ++ lineAt s w j) n ∙ sym (run-next (lineAt s w) 0 i)
 
-lines-from : (s w : List ℕ) (l : List Rec) (k : ℕ) → ((i : ℕ) → i < 3 * length l → getD w (3 * k + i) 0 ≡ getD (words l) i 0)
+lines-from : (s w : List ℕ) (l : List Rec) (k : ℕ) → ((i : ℕ) → i < 4 * length l → getD w (4 * k + i) 0 ≡ getD (words (entryOf (tree s)) l) i 0)
     → run (lineAt s w) k (length l) ≡ recordLines s l
 unfolding recordLines
 lines-from s w [] k h = run-none (lineAt s w) k
 lines-from s w (r ∷ l) k h =
-    let z : 3 * k ≡ 3 * k + 0 = omega arith in
+    let z : 4 * k ≡ 4 * k + 0 = omega arith in
     let n : suc (length l) ≡ 1 + length l = omega arith in
-    let here : lineAt s w k ≡ recordLine s r =
-    ap (recordLine s) (rec-same r (ap (λ (i : ℕ). getD w i 0) z ∙ h 0 (omega arith)) (h 1 (omega arith)) (h 2 (omega arith))) in
-    let later : (i : ℕ) → i < 3 * length l → getD w (3 * (k + 1) + i) 0 ≡ getD (words l) i 0 =
-    λ i g. (let e : 3 * (k + 1) + i ≡ 3 * k + suc (suc (suc i)) = omega arith in ap (λ (j : ℕ). getD w j 0) e ∙ h (suc (suc (suc i))) (omega arith)) in
+    let here : lineAt s w k ≡ recordLine s r = line-same s (ap (λ (i : ℕ). getD w i 0) z ∙ h 0 (omega arith)) (h 1 (omega arith)) (h 2 (omega arith)) (h 3 (omega arith)) in
+    let later : (i : ℕ) → i < 4 * length l → getD w (4 * (k + 1) + i) 0 ≡ getD (words (entryOf (tree s)) l) i 0 =
+    λ i g. (let e : 4 * (k + 1) + i ≡ 4 * k + suc (suc (suc (suc i))) = omega arith in ap (λ (j : ℕ). getD w j 0) e ∙ h (suc (suc (suc (suc i)))) (omega arith)) in
     ap (run (lineAt s w) k) n ∙ run-split (lineAt s w) k 1 (length l)
     ∙ ap (λ (t : List ℕ). t ++ run (lineAt s w) (k + 1) (length l)) (run-one (lineAt s w) k ∙ here)
     ∙ ap (λ (t : List ℕ). recordLine s r ++ t) (lines-from s w l (k + 1) later)
 
 -- the lines of the list, from what it answers and what it leaves in its buffer
 module _ (s o w : List ℕ) (count : ℕ) (e : refusal s ≡ 0) (a : listHas count ≡ listAnswer s (length o)) (b : w ≡ listBuffer s o) where
-  many : (count ≡ length (offences (tree s))) × (3 * length (offences (tree s)) ≤ length o)
-  many = go (ltb (length o) (3 * length (offences (tree s)))) refl
+  many : (count ≡ length (offences (tree s))) × (4 * length (offences (tree s)) ≤ length o)
+  many = go (ltb (length o) (4 * length (offences (tree s)))) refl
     where
-      go : (t : Bool) → ltb (length o) (3 * length (offences (tree s))) ≡ t → (count ≡ length (offences (tree s))) × (3 * length (offences (tree s)) ≤ length o)
+      go : (t : Bool) → ltb (length o) (4 * length (offences (tree s))) ≡ t → (count ≡ length (offences (tree s))) × (4 * length (offences (tree s)) ≤ length o)
       go true q = let z : _≡_ {A = ℕ} 0 9 = ap (λ (l : ListReply). l .number) (a ∙ list-short s (length o) e (ltb-true _ _ q)) in absurd (omega arith)
-      go false q = let l = ltb-false (length o) (3 * length (offences (tree s))) q in (ap (λ (x : ListReply). x .records) (a ∙ list-listed s (length o) e l), l)
+      go false q = let l = ltb-false (length o) (4 * length (offences (tree s))) q in (ap (λ (x : ListReply). x .records) (a ∙ list-listed s (length o) e l), l)
 
-  pub records-fit : (3 * count ≤ length w) × (length w ≡ length o)
+  pub records-fit : (4 * count ≤ length w) × (length w ≡ length o)
   records-fit =
       let m = many in
       let x = m .0 in
@@ -108,9 +108,9 @@ module _ (s o w : List ℕ) (count : ℕ) (e : refusal s ≡ 0) (a : listHas cou
   pub lines-listed : (size : ℕ) → length o ≡ size → bytes "list" ++ (rest (count ∷ []) ++ run (lineAt s w) 0 count) ≡ listLines s (listAnswer s size)
   lines-listed size f =
       let m = many in
-      let at : (i : ℕ) → i < 3 * length (offences (tree s)) → getD w (3 * 0 + i) 0 ≡ getD (words (offences (tree s))) i 0 =
-      λ i g. (let z : 3 * 0 + i ≡ i = omega arith in let l = m .1 in
-      ap (λ (j : ℕ). getD w j 0) z ∙ ap (λ (v : List ℕ). getD v i 0) (b ∙ buffer-listed s o e (m .1)) ∙ laid-written o (offences (tree s)) i g (omega arith)) in
+      let at : (i : ℕ) → i < 4 * length (offences (tree s)) → getD w (4 * 0 + i) 0 ≡ getD (words (entryOf (tree s)) (offences (tree s))) i 0 =
+      λ i g. (let z : 4 * 0 + i ≡ i = omega arith in let l = m .1 in
+      ap (λ (j : ℕ). getD w j 0) z ∙ ap (λ (v : List ℕ). getD v i 0) (b ∙ buffer-listed s o e (m .1)) ∙ laid-written (entryOf (tree s)) o (offences (tree s)) i g (omega arith)) in
       ap (λ (t : List ℕ). bytes "list" ++ (rest (count ∷ []) ++ t)) (ap (run (lineAt s w) 0) (m .0) ∙ lines-from s w (offences (tree s)) 0 at)
       ∙ ap (listLines s) (a ∙ ap (listAnswer s) f)
 

@@ -18,7 +18,7 @@ pub example :
     ++ line "access 0 0 0 0"
     ++ line "linear 61 5 50 51"
     ++ line "list 1"
-    ++ line "61 5 0 50 51"
+    ++ line "61 5 0 2 50 51"
 unfolding imageOf filled bytes digits rest recordLines reportText
 example = refl
 

@@ -7,13 +7,12 @@ ghost use mathlib.Core.Path.{_≡_};
 ghost use Prim.Native.Nat.{_+_, _*_, _<_, _≤_, _^_};
 ghost use lib.ListN.{length};
 ghost use Rattle.rules.specs.Sweep.{run};
-ghost use Rattle.rules.specs.Vocabulary.{rec};
 ghost use Rattle.rules.specs.Answers.{listAnswer};
 ghost use Rattle.records.specs.Words.{old, new};
 ghost use Rattle.nodes.specs.Shown.{Admitted};
 ghost use Rattle.typeck.specs.Face.{answerOf};
 ghost use Rattle.lines.specs.Line.{Printed};
-ghost use Rattle.render.specs.Report.{passLine, recordLine, listLines, reportText, lineAt};
+ghost use Rattle.render.specs.Report.{passLine, listLines, reportText, lineAt, lineOf};
 
 // The line of a pass.
 fn pass_line(name: &[u8], v: Verdict, out: &mut [u8], at: usize) -> usize
@@ -47,17 +46,19 @@ fn record_line(
     code: usize,
     place: usize,
     related: usize,
+    entry: usize,
     out: &mut [u8],
     at: usize,
 ) -> usize
-    requires { ⌜ Admitted (now image) head × (at < 2 ^ 56) × (code < 65536) × (place < 65536) × (related < 65536) ⌝ }
-    ensures { λ r. ⌜ Printed (old out) at (recordLine (old image) (rec code place related)) (new out) r × (r ≤ at + 40) ⌝ }
+    requires { ⌜ Admitted (now image) head × (at < 2 ^ 56) × (code < 65536) × (place < 65536) × (related < 65536) × (entry < 65536) ⌝ }
+    ensures { λ r. ⌜ Printed (old out) at (lineOf (old image) code place related entry) (new out) r × (r ≤ at + 46) ⌝ }
 {
     let span = spans::of_place(image, head, place);
     let from = span.from;
     let to = span.to;
-    let k = lines::decimal(code, 20, out, at);
-    lines::rest_four(place, related, from, to, out, k)
+    let j = lines::decimal(code, 20, out, at);
+    let k = lines::number(place, out, j);
+    lines::rest_four(related, entry, from, to, out, k)
 }
 
 fn wide(w: u16) -> usize
@@ -75,16 +76,17 @@ fn record_lines(
     out: &mut [u8],
     at: usize,
 ) -> usize
-    requires { ⌜ Admitted (now image) head × (3 * count ≤ length (now words)) × (length (now words) ≤ 2 ^ 16) × (at < 2 ^ 52) ⌝ }
-    ensures { λ r. ⌜ Printed (old out) at (run (lineAt (old image) (old words)) 0 count) (new out) r × (r ≤ at + 40 * count) ⌝ }
+    requires { ⌜ Admitted (now image) head × (4 * count ≤ length (now words)) × (length (now words) ≤ 2 ^ 16) × (at < 2 ^ 52) ⌝ }
+    ensures { λ r. ⌜ Printed (old out) at (run (lineAt (old image) (old words)) 0 count) (new out) r × (r ≤ at + 46 * count) ⌝ }
 {
     let mut i = 0;
     let mut k = at;
     while i < count {
-        let code = wide(words[3 * i]);
-        let place = wide(words[3 * i + 1]);
-        let related = wide(words[3 * i + 2]);
-        k = record_line(image, head, code, place, related, out, k);
+        let code = wide(words[4 * i]);
+        let place = wide(words[4 * i + 1]);
+        let related = wide(words[4 * i + 2]);
+        let entry = wide(words[4 * i + 3]);
+        k = record_line(image, head, code, place, related, entry, out, k);
         i += 1;
     }
     k

@@ -17,7 +17,8 @@ use Rattle.typeck.specs.declared.Listed.{Listed}
 use Rattle.recording.specs.declared.tell.Numbers.{Numbers}
 use Rattle.recording.specs.declared.list.Part.{Part}
 use Rattle.recording.specs.declared.list.Parts.{Parts}
-use Rattle.recording.specs.Told.{difference, verdictAt, replyAt, headOf, listDifferences, partOf, partsOf}
+use Rattle.recording.specs.Told.{difference, recordWords, recordBytes, verdictAt, replyAt, headOf}
+use Rattle.recording.specs.Told.{listDifferences, partOf, partsOf}
 use Rattle.recording.proofs.Laws.{Lies, part-is}
 use Rattle.replay.specs.declared.ask.Asked.{Asked}
 use Rattle.replay.specs.declared.ask.Asked.the-variants as asked
@@ -48,19 +49,19 @@ listed-as to s w e p q =
     (p ∙ sym (ap (λ (a : Asked). listedFor a s (length w)) e), q ∙ sym (ap (λ (a : Asked). wordsFor a s w) e))
 
 pub list-differs : (a : Asked) (f : List ℕ) (part : Part) (n : ℕ) (s : List ℕ) {w w′ : List ℕ} {r : ℕ} →
-    r ≡ listDifferences n f part (ofListed (listedFor a s (3 * part .count))) w′ → w′ ≡ wordsIn a s (3 * part .count) w → w ≡ zeros →
+    r ≡ listDifferences n f part (ofListed (listedFor a s (recordWords * part .count))) w′ → w′ ≡ wordsIn a s (recordWords * part .count) w → w ≡ zeros →
     r ≡ listDifference a f part n s
 unfolding listDifference
 list-differs a f part n s e p q =
     e
-    ∙ ap (λ (w : List ℕ). listDifferences n f part (ofListed (listedFor a s (3 * part .count))) w)
-    (p ∙ ap (λ (w : List ℕ). wordsIn a s (3 * part .count) w) q)
+    ∙ ap (λ (w : List ℕ). listDifferences n f part (ofListed (listedFor a s (recordWords * part .count))) w)
+    (p ∙ ap (λ (w : List ℕ). wordsIn a s (recordWords * part .count) w) q)
 
 pub short-none : (k : ℕ) (s : List ℕ) → k ≡ 0 → 0 ≡ shortDifference k s
 unfolding shortDifference
 short-none k s e = simp (eq-eqb k 0 e)
 
-pub short-some : (k : ℕ) (s : List ℕ) {a : Numbers} {r : ℕ} → (k ≡ 0 → ⊥) → a ≡ ofListed (listedFor asked.Whole s (3 * k - 1)) →
+pub short-some : (k : ℕ) (s : List ℕ) {a : Numbers} {r : ℕ} → (k ≡ 0 → ⊥) → a ≡ ofListed (listedFor asked.Whole s (recordWords * k - 1)) →
     r ≡ difference (headOf 9 0) a → r ≡ shortDifference k s
 unfolding shortDifference
 short-some k s h e d = simp (ne-eqb k 0 h) (d ∙ ap (difference (headOf 9 0)) e)
@@ -157,23 +158,23 @@ module _ (f : List ℕ) (at : ℕ) (s : List ℕ) where
   unfolding answersStep
   answers-by k n e g = ap (λ (k : ℕ). answersBy f at k n s) e ∙ ap (λ (n : ℕ). answersBy f at (fullWord f (at + 37)) n s) g
 
-  pub answers-cut : (k n : ℕ) {r : Step} → k ≡ fullWord f (at + 37) → n ≡ getD f at 0 → length f - (at + 41) < 6 * k + 1 → r ≡ endsEarly
+  pub answers-cut : (k n : ℕ) {r : Step} → k ≡ fullWord f (at + 37) → n ≡ getD f at 0 → length f - (at + 41) < recordBytes * k + 1 → r ≡ endsEarly
       →
       r ≡ answersStep f at s
   answers-cut k n e g l z =
-      let b : answersBy f at k n s ≡ endsEarly = simp (lt-ltb (length f - (at + 41)) (6 * k + 1) l) in z ∙ sym b ∙ answers-by k n e g
+      let b : answersBy f at k n s ≡ endsEarly = simp (lt-ltb (length f - (at + 41)) (recordBytes * k + 1) l) in z ∙ sym b ∙ answers-by k n e g
 
   pub answers-whole : (k n m : ℕ) {a b c d : ℕ} {st : Step} → k ≡ fullWord f (at + 37) → n ≡ getD f at 0 →
-      6 * k + 1 ≤ length f - (at + 41) → a ≡ passDifferences f (at + 1) n s → b ≡ verdictDifferences f (at + 1) n s →
-      c ≡ listsDifferences f (at + 41) k n s → d ≡ passDifference linear f (at + 1 + 24) n s → m ≡ getD f (at + 41 + 6 * k) 0 →
-      st ≡ namesStep f n s m (at + 41 + 6 * k + 1) → after (a + b + c + d) st ≡ answersStep f at s
+      recordBytes * k + 1 ≤ length f - (at + 41) → a ≡ passDifferences f (at + 1) n s → b ≡ verdictDifferences f (at + 1) n s →
+      c ≡ listsDifferences f (at + 41) k n s → d ≡ passDifference linear f (at + 1 + 24) n s → m ≡ getD f (at + 41 + recordBytes * k) 0 →
+      st ≡ namesStep f n s m (at + 41 + recordBytes * k + 1) → after (a + b + c + d) st ≡ answersStep f at s
   answers-whole k n m {a} {b} {c} {d} {st} e g l p v q u y z =
-      let x : st ≡ namesStep f n s (getD f (at + 41 + 6 * k) 0) (at + 41 + 6 * k + 1) = z ∙ ap (λ (m : ℕ). namesStep f n s m
-      (at + 41 + 6 * k + 1)) y in
+      let x : st ≡ namesStep f n s (getD f (at + 41 + recordBytes * k) 0) (at + 41 + recordBytes * k + 1) = z ∙ ap (λ (m : ℕ). namesStep f n s m
+      (at + 41 + recordBytes * k + 1)) y in
       let t : a + b + c + d ≡ answerDifferences f at k n s = cc in
-      let w : answersBy f at k n s ≡ after (answerDifferences f at k n s) (namesStep f n s (getD f (at + 41 + 6 * k) 0)
-      (at + 41 + 6 * k + 1)) =
-      simp (le-ltb (length f - (at + 41)) (6 * k + 1) l) in
+      let w : answersBy f at k n s ≡ after (answerDifferences f at k n s) (namesStep f n s (getD f (at + 41 + recordBytes * k) 0)
+      (at + 41 + recordBytes * k + 1)) =
+      simp (le-ltb (length f - (at + 41)) (recordBytes * k + 1) l) in
       ap (λ (h : ℕ). after h st) t ∙ ap (after (answerDifferences f at k n s)) x ∙ sym w ∙ answers-by k n e g
 
 -- One image

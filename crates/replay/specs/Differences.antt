@@ -25,25 +25,26 @@ use Rattle.typeck.specs.declared.Listed.the-variants as listed
 use Rattle.recording.specs.declared.tell.Numbers.{Numbers}
 use Rattle.recording.specs.declared.list.Part.{Part}
 use Rattle.recording.specs.declared.list.Parts.{Parts}
-use Rattle.recording.specs.Told.{numbers, difference, verdictAt, replyAt, headOf, listDifferences, partOf, partsOf}
+use Rattle.recording.specs.Told.{numbers, difference, recordWords, recordBytes, verdictAt, replyAt, headOf}
+use Rattle.recording.specs.Told.{listDifferences, partOf, partsOf}
 use Rattle.replay.specs.declared.ask.Asked.{Asked}
 use Rattle.replay.specs.declared.ask.Asked.the-variants as asked
 use Rattle.replay.specs.declared.Step.{Step}
 
 -- The answers as numbers
 abbrev pub ofVerdict : Verdict → Numbers
-ofVerdict (verdict.Image r) = numbers r 0 0 0 0
-ofVerdict verdict.Accepted = numbers 0 0 0 0 0
-ofVerdict (verdict.Refused c p f t) = numbers 0 c p f t
+ofVerdict (verdict.Image r) = numbers r 0 0 0 0 0
+ofVerdict verdict.Accepted = numbers 0 0 0 0 0 0
+ofVerdict (verdict.Refused c p f t) = numbers 0 c p f t 0
 
 abbrev pub ofReply : Reply → Numbers
-ofReply (reply.Image r) = numbers r 0 0 0 0
-ofReply reply.Yes = numbers 0 1 0 0 0
-ofReply reply.No = numbers 0 0 0 0 0
+ofReply (reply.Image r) = numbers r 0 0 0 0 0
+ofReply reply.Yes = numbers 0 1 0 0 0 0
+ofReply reply.No = numbers 0 0 0 0 0 0
 
 abbrev pub ofListed : Listed → Numbers
-ofListed (listed.Refused r) = numbers r 0 0 0 0
-ofListed (listed.Records k) = numbers 0 k 0 0 0
+ofListed (listed.Refused r) = numbers r 0 0 0 0 0
+ofListed (listed.Records k) = numbers 0 k 0 0 0 0
 
 -- The refusal; a pass, and the three of them
 abbrev pub refusalDifference : ℕ → List ℕ → ℕ
@@ -95,10 +96,10 @@ zeros = replicate 225000 0
 -- a list asked for with room for the recorded records and no more; with one word less; all of them
 unfoldable pub listDifference : Asked → List ℕ → Part → ℕ → List ℕ → ℕ
 listDifference asked f part n s =
-    listDifferences n f part (listNumbers asked s (3 * part .count)) (wordsIn asked s (3 * part .count) zeros)
+    listDifferences n f part (listNumbers asked s (recordWords * part .count)) (wordsIn asked s (recordWords * part .count) zeros)
 
 unfoldable pub shortDifference : ℕ → List ℕ → ℕ
-shortDifference k s = pick (eqb k 0) 0 (difference (headOf 9 0) (listNumbers asked.Whole s (3 * k - 1)))
+shortDifference k s = pick (eqb k 0) 0 (difference (headOf 9 0) (listNumbers asked.Whole s (recordWords * k - 1)))
 
 abbrev pub listsBy : Parts → List ℕ → Part → ℕ → List ℕ → ℕ
 listsBy parts f whole n s =
@@ -145,8 +146,8 @@ answerDifferences f at k n s =
 
 abbrev pub answersBy : List ℕ → ℕ → ℕ → ℕ → List ℕ → Step
 answersBy f at k n s =
-    pick (ltb (length f - (at + 41)) (6 * k + 1)) endsEarly
-    (after (answerDifferences f at k n s) (namesStep f n s (getD f (at + 41 + 6 * k) 0) (at + 41 + 6 * k + 1)))
+    pick (ltb (length f - (at + 41)) (recordBytes * k + 1)) endsEarly
+    (after (answerDifferences f at k n s) (namesStep f n s (getD f (at + 41 + recordBytes * k) 0) (at + 41 + recordBytes * k + 1)))
 
 unfoldable pub answersStep : List ℕ → ℕ → List ℕ → Step
 answersStep f at s = answersBy f at (fullWord f (at + 37)) (getD f at 0) s

@@ -20,8 +20,8 @@ pub fn of_verdict(verdict: Verdict) -> Numbers
     ensures { λ r. ⌜ r ≡ ofVerdict verdict ⌝ }
 {
     match verdict {
-        Verdict::Image(refusal) => Numbers(refusal, 0, 0, 0, 0),
-        Verdict::Accepted => Numbers(0, 0, 0, 0, 0),
+        Verdict::Image(refusal) => Numbers(refusal, 0, 0, 0, 0, 0),
+        Verdict::Accepted => Numbers(0, 0, 0, 0, 0, 0),
         Verdict::Refused {
             code,
             place,
@@ -33,6 +33,7 @@ pub fn of_verdict(verdict: Verdict) -> Numbers
             recording::wide_u16(place),
             recording::wide_u32(from),
             recording::wide_u32(to),
+            0,
         ),
     }
 }
@@ -41,9 +42,9 @@ pub fn of_reply(reply: Reply) -> Numbers
     ensures { λ r. ⌜ r ≡ ofReply reply ⌝ }
 {
     match reply {
-        Reply::Image(refusal) => Numbers(refusal, 0, 0, 0, 0),
-        Reply::Yes => Numbers(0, 1, 0, 0, 0),
-        Reply::No => Numbers(0, 0, 0, 0, 0),
+        Reply::Image(refusal) => Numbers(refusal, 0, 0, 0, 0, 0),
+        Reply::Yes => Numbers(0, 1, 0, 0, 0, 0),
+        Reply::No => Numbers(0, 0, 0, 0, 0, 0),
     }
 }
 
@@ -51,8 +52,8 @@ pub fn of_listed(listed: Listed) -> Numbers
     ensures { λ r. ⌜ r ≡ ofListed listed ⌝ }
 {
     match listed {
-        Listed::Refused(refusal) => Numbers(refusal, 0, 0, 0, 0),
-        Listed::Records(count) => Numbers(0, count, 0, 0, 0),
+        Listed::Refused(refusal) => Numbers(refusal, 0, 0, 0, 0, 0),
+        Listed::Records(count) => Numbers(0, count, 0, 0, 0, 0),
     }
 }
 

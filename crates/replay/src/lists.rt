@@ -4,11 +4,12 @@ use crate::ask::Asked;
 use recording::Case;
 use recording::Numbers;
 use recording::Part;
+use recording::RECORD_WORDS;
 ghost use mathlib.Core.Path.{_≡_};
 ghost use Prim.Native.Nat.{_+_, _*_, _≤_};
 ghost use lib.ListN.{length};
 ghost use Rattle.records.specs.Words.{old, new};
-ghost use Rattle.recording.specs.Told.{Within, listDifferences};
+ghost use Rattle.recording.specs.Told.{recordWords, recordBytes, Within, listDifferences};
 ghost use Rattle.replay.specs.Differences.{listNumbers, wordsIn, zeros, listDifference, shortDifference, listsDifferences};
 
 // Words for as many records as a file of main's ROOM bytes can hold.
@@ -40,11 +41,11 @@ fn list_in(
     image: &[u8],
     words: &mut [u16],
 ) -> usize
-    requires { ⌜ Within (now file) part × (3 * part .count ≤ length (now words)) ⌝ }
-    ensures { λ r. ⌜ (r ≡ listDifferences (case .refusal) (old file) part (listNumbers asked (old image) (3 * part .count)) (new words)) × (r ≤ part .count + 1) ⌝ }
-    ensures { λ _. ⌜ new words ≡ wordsIn asked (old image) (3 * part .count) (old words) ⌝ }
+    requires { ⌜ Within (now file) part × (recordWords * part .count ≤ length (now words)) ⌝ }
+    ensures { λ r. ⌜ (r ≡ listDifferences (case .refusal) (old file) part (listNumbers asked (old image) (recordWords * part .count)) (new words)) × (r ≤ part .count + 1) ⌝ }
+    ensures { λ _. ⌜ new words ≡ wordsIn asked (old image) (recordWords * part .count) (old words) ⌝ }
 {
-    let answer = answer_in(asked, image, words, 3 * part.count);
+    let answer = answer_in(asked, image, words, RECORD_WORDS * part.count);
     recording::records_differ(case, name, file, part, answer, words)
 }
 
@@ -57,7 +58,7 @@ fn list_differs(
     image: &[u8],
 ) -> usize
     requires { ⌜ Within (now file) part × (length (now file) ≤ 450000) ⌝ }
-    ensures { λ r. ⌜ (r ≡ listDifference asked (old file) part (case .refusal) (old image)) × (r ≤ 75001) ⌝ }
+    ensures { λ r. ⌜ (r ≡ listDifference asked (old file) part (case .refusal) (old image)) × (r ≤ 56251) ⌝ }
 {
     let mut words = blank();
     list_in(case, name, asked, file, part, image, &mut words)
@@ -65,21 +66,21 @@ fn list_differs(
 
 // Where there is a record, a buffer that is one word short is refused by 9.
 fn short_differs(case: Case, count: usize, image: &[u8]) -> usize
-    requires { ⌜ 6 * count ≤ 450000 ⌝ }
+    requires { ⌜ recordBytes * count ≤ 450000 ⌝ }
     ensures { λ r. ⌜ (r ≡ shortDifference count (old image)) × (r ≤ 1) ⌝ }
 {
     if count == 0 {
         return 0;
     }
     let mut words = blank();
-    let answer = answer_in(Asked::Whole, image, &mut words, 3 * count - 1);
-    let recorded = Numbers(9, 0, 0, 0, 0);
+    let answer = answer_in(Asked::Whole, image, &mut words, RECORD_WORDS * count - 1);
+    let recorded = Numbers(9, 0, 0, 0, 0, 0);
     recording::differs(case, b"list, one word short", recorded, answer)
 }
 
 // How many of the lists differ from the recorded one.
 pub fn differ(case: Case, file: &[u8], at: usize, count: usize, image: &[u8]) -> usize
-    requires { ⌜ (at + 6 * count ≤ length (now file)) × (length (now file) ≤ 450000) ⌝ }
+    requires { ⌜ (at + recordBytes * count ≤ length (now file)) × (length (now file) ≤ 450000) ⌝ }
     ensures { λ r. ⌜ (r ≡ listsDifferences (old file) at count (case .refusal) (old image)) × (r ≤ 400000) ⌝ }
 {
     let whole = recording::part_of(at, count);

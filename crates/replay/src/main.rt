@@ -4,6 +4,7 @@ mod lists;
 
 use recording::Case;
 use recording::Numbers;
+use recording::RECORD_BYTES;
 use typeck::Reply;
 use typeck::Verdict;
 ghost use mathlib.Core.Path.{_≡_};
@@ -65,8 +66,8 @@ fn passes_differ(case: Case, file: &[u8], at: usize, image: &[u8]) -> usize
     requires { ⌜ at + 36 ≤ length (now file) ⌝ }
     ensures { λ r. ⌜ (r ≡ passDifferences (old file) at (case .refusal) (old image)) × (r ≤ 4) ⌝ }
 {
-    let recorded = Numbers(case.refusal, 0, 0, 0, 0);
-    let refused = Numbers(typeck::refused(image), 0, 0, 0, 0);
+    let recorded = Numbers(case.refusal, 0, 0, 0, 0, 0);
+    let refused = Numbers(typeck::refused(image), 0, 0, 0, 0, 0);
     let a = recording::differs(case, b"refused", recorded, refused);
     let b = pass_differs(case, b"resolve", file, at, typeck::resolve(image));
     let c = pass_differs(case, b"access", file, at + 12, typeck::access(image));
@@ -171,10 +172,10 @@ fn answers_step(file: &[u8], at: usize, number: usize, image: &[u8]) -> Step
     let case = Case { number, refusal };
     let count = recording::u32_at(file, at + 37);
     let list = at + 41;
-    if file.len() - list < 6 * count + 1 {
+    if file.len() - list < RECORD_BYTES * count + 1 {
         return early();
     }
-    let names = list + 6 * count;
+    let names = list + RECORD_BYTES * count;
     let a = passes_differ(case, file, at + 1, image);
     let b = verdicts_differ(case, file, at + 1, image);
     let c = lists::differ(case, file, list, count, image);

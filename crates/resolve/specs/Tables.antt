@@ -9,6 +9,7 @@ use Rattle.rules.specs.Vocabulary.{Rec, calls}
 use Rattle.rules.specs.Model.{isState, isStateTyped, isDeclaredAsset, isKnownAsset}
 use Rattle.rules.specs.Resolve.{rule34, rule40, genesisRules, entryRules, group20, group21, group22, group23, group24, group30}
 use Rattle.records.specs.Words.{Lent, old, new}
+use Rattle.records.specs.Records.{Entered, on}
 use Rattle.nodes.specs.Shown.{View, In, treeOf}
 use Rattle.nodes.specs.Marks.{Marks}
 use Rattle.names.specs.Found.{Numbered}
@@ -58,17 +59,17 @@ abbrev pub firstGroups : Tree → List Rec
 firstGroups t = group20 t ++ (group21 t ++ (group22 t ++ (group23 t ++ (group24 t ++ group30 t))))
 
 -- what F says of the tree of the nodes that are lent, by each of these
-abbrev pub lentFirst : (Tree → List Rec) → (nodes : Lent (List ℕ)) (mint : ℕ) (state : Lent (List Bool)) → LentFirst (old nodes) mint (old state) → List Rec
-lentFirst F nodes mint state T = F (treeOf (T .view))
+abbrev pub lentFirst : (Tree → List Rec) → (nodes : Lent (List ℕ)) (mint : ℕ) (state : Lent (List Bool)) → LentFirst (old nodes) mint (old state) → Entered
+lentFirst F nodes mint state T = on F (treeOf (T .view))
 
-abbrev pub worded : (Tree → List Rec) → (nodes : Lent (List ℕ)) (state builtin method : Lent (List Bool)) → CallTables (old nodes) (old state) (old builtin) (old method) → List Rec
-worded F nodes state builtin method T = F (treeOf (T .view))
+abbrev pub worded : (Tree → List Rec) → (nodes : Lent (List ℕ)) (state builtin method : Lent (List Bool)) → CallTables (old nodes) (old state) (old builtin) (old method) → Entered
+worded F nodes state builtin method T = on F (treeOf (T .view))
 
-abbrev pub ofEntry : (Tree → List Rec) → (nodes : Lent (List ℕ)) (address : ℕ) (fields params builtin method : Lent (List Bool)) → Called (old nodes) address (old fields) (old params) (old builtin) (old method) → List Rec
-ofEntry F nodes address fields params builtin method T = F (treeOf (T .view))
+abbrev pub ofEntry : (Tree → List Rec) → (nodes : Lent (List ℕ)) (address : ℕ) (fields params builtin method : Lent (List Bool)) → Called (old nodes) address (old fields) (old params) (old builtin) (old method) → Entered
+ofEntry F nodes address fields params builtin method T = on F (treeOf (T .view))
 
-abbrev pub lent : (Tree → List Rec) → (nodes : Lent (List ℕ)) (address : ℕ) (state declared known fields params builtin method : Lent (List Bool)) → ResolveTables (old nodes) address (old state) (old declared) (old known) (old fields) (old params) (old builtin) (old method) → List Rec
-lent F nodes address state declared known fields params builtin method T = F (treeOf (T .ofEntry .view))
+abbrev pub lent : (Tree → List Rec) → (nodes : Lent (List ℕ)) (address : ℕ) (state declared known fields params builtin method : Lent (List Bool)) → ResolveTables (old nodes) address (old state) (old declared) (old known) (old fields) (old params) (old builtin) (old method) → Entered
+lent F nodes address state declared known fields params builtin method T = on F (treeOf (T .ofEntry .view))
 
 -- no parameter is marked afterwards
 abbrev pub CleansParams : (nodes : Lent (List ℕ)) (address : ℕ) (fields params builtin method : Lent (List Bool)) → Type 0

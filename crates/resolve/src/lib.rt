@@ -55,7 +55,7 @@ fn genesis(
     let total = resolve_clauses::assigns(nodes, item, state, out, count);
     let first = items::first_statement(nodes, 0, item);
     let body = items::statements(nodes, 0, item, first);
-    resolve_calls::calls34(body, first, builtin, method, out, total)
+    resolve_calls::calls34(body, first, 0, builtin, method, out, total)
 }
 
 // 33 and 34: each Genesis; nothing where the contract has none.
@@ -111,9 +111,9 @@ fn entry_calls(
         resolve_calls::mark_params(nodes, entry, first, address, false, params);
         return count;
     }
-    let total = resolve_calls::calls40(body, first, fields, params, out, count);
+    let total = resolve_calls::calls40(body, first, entry, fields, params, out, count);
     resolve_calls::mark_params(nodes, entry, first, address, false, params);
-    resolve_calls::calls34(body, first, builtin, method, out, total)
+    resolve_calls::calls34(body, first, entry, builtin, method, out, total)
 }
 
 // 35, 36 to 39, 40 and 34 in an item, if it is an Entry.

@@ -10,6 +10,7 @@ use Rattle.rules.specs.Vocabulary.{Rec, someBelow, named, typed}
 use Rattle.rules.specs.Model.{isStateTyped}
 use Rattle.rules.specs.Resolve.{rule34, rule40}
 use Rattle.records.specs.Words.{Lent, old, new}
+use Rattle.records.specs.Records.{Entered, on}
 use Rattle.nodes.specs.Shown.{View, treeOf}
 use Rattle.nodes.specs.Marks.{Marks, Turned}
 use Rattle.names.specs.Found.{Numbered}
@@ -53,18 +54,18 @@ abbrev pub at40 : ℕ → Tree → ℕ → List Rec
 at40 p t e = keep (has (t .kind p) call) (rule40 t e) p
 
 -- what F says of the tree of the nodes that are lent; of the tree and the entry
-abbrev pub known : (Tree → List Rec) → (nodes : Lent (List ℕ)) (base : ℕ) (builtin method : Lent (List Bool)) → CallWords (old nodes) base (old builtin) (old method) → List Rec
-known F nodes base builtin method T = F (treeOf (T .view))
+abbrev pub known : (Tree → List Rec) → (nodes : Lent (List ℕ)) (base : ℕ) (builtin method : Lent (List Bool)) → CallWords (old nodes) base (old builtin) (old method) → Entered
+known F nodes base builtin method T = on F (treeOf (T .view))
 
-abbrev pub called : (Tree → ℕ → List Rec) → (nodes : Lent (List ℕ)) (base : ℕ) (fields params : Lent (List Bool)) → Calling (old nodes) base (old fields) (old params) → List Rec
-called F nodes base fields params T = F (treeOf (T .view)) (T .entry)
+abbrev pub called : (Tree → ℕ → List Rec) → (nodes : Lent (List ℕ)) (base : ℕ) (fields params : Lent (List Bool)) → Calling (old nodes) base (old fields) (old params) → Entered
+called F nodes base fields params T = on (λ t. F t (T .entry)) (treeOf (T .view))
 
 -- 34, 40 at all of the nodes that are lent
-abbrev pub swept34 : (nodes : Lent (List ℕ)) (base : ℕ) (builtin method : Lent (List Bool)) → CallWords (old nodes) base (old builtin) (old method) → List Rec
-swept34 nodes base builtin method T = run (λ p. at34 p (treeOf (T .view))) base (T .view .upto - base)
+abbrev pub swept34 : (nodes : Lent (List ℕ)) (base : ℕ) (builtin method : Lent (List Bool)) → CallWords (old nodes) base (old builtin) (old method) → Entered
+swept34 nodes base builtin method T = on (λ t. run (λ p. at34 p t) base (T .view .upto - base)) (treeOf (T .view))
 
-abbrev pub swept40 : (nodes : Lent (List ℕ)) (base : ℕ) (fields params : Lent (List Bool)) → Calling (old nodes) base (old fields) (old params) → List Rec
-swept40 nodes base fields params T = run (λ p. at40 p (treeOf (T .view)) (T .entry)) base (T .view .upto - base)
+abbrev pub swept40 : (nodes : Lent (List ℕ)) (base : ℕ) (fields params : Lent (List Bool)) → Calling (old nodes) base (old fields) (old params) → Entered
+swept40 nodes base fields params T = on (λ t. run (λ p. at40 p t (T .entry)) base (T .view .upto - base)) (treeOf (T .view))
 
 -- the mark of a FieldDecl's Name says whether it is of type `Q_Address`: a later one of the same name replaces the earlier one's
 abbrev pub fieldAt : Tree → List ℕ → ℕ → Bool

@@ -22,6 +22,7 @@ ghost use Rattle.rules.specs.Model.{isStateTyped};
 ghost use Rattle.rules.specs.Resolve.{isAddress};
 ghost use Rattle.records.specs.Words.{old, new};
 ghost use Rattle.records.specs.Records.{Adds, Asks};
+ghost use Rattle.nodes.specs.Entries.{inPart};
 ghost use Rattle.nodes.specs.Shown.{In, treeOf};
 ghost use Rattle.nodes.specs.Marks.{Marks};
 ghost use Rattle.nodes.specs.First.{Head};
@@ -42,23 +43,31 @@ fn rule34(nodes: &[u8], base: usize, p: usize, builtin: &Marks, method: &Marks) 
     !nodes::is_field(nodes, base, p + 1, method)
 }
 
-// 34 in an item's statements, lent as their own part of the node area, which starts with number `base`.
+// 34 in the statements of an item, which stand in an entry (0: in none), lent as their own part of the node area, which starts with number `base`.
 pub fn calls34(
     nodes: &[u8],
     base: usize,
+    entry: usize,
     builtin: &Marks,
     method: &Marks,
     out: &mut [u16],
     count: usize,
 ) -> usize
-    requires { ⌜ CallWords (now nodes) base (now builtin) (now method) × (count < 2 ^ 50) ⌝ }
-    ensures { λ r. ⌜ Adds (swept34 nodes base builtin method) 2048 out count r ⌝ }
+    requires { ⌜ CallWords (now nodes) base (now builtin) (now method) × (count < 2 ^ 50) × (entry < 2048) ⌝ }
+    ensures { λ r. ⌜ Adds (inPart entry nodes base (swept34 nodes base builtin method)) 2048 out count r ⌝ }
 {
     let end = base + nodes.len() / 16;
     let mut total = count;
     let mut p = base;
     while p < end {
-        total = records::emit_if(rule34(nodes, base, p, builtin, method), out, total, 34, p);
+        total = records::emit_if(
+            rule34(nodes, base, p, builtin, method),
+            out,
+            total,
+            34,
+            p,
+            entry,
+        );
         p += 1;
     }
     total
@@ -96,23 +105,31 @@ fn rule40(nodes: &[u8], base: usize, p: usize, fields: &Marks, params: &Marks) -
     is_address(nodes, base, p + 1, fields, params)
 }
 
-// 40 in an entry's statements, lent as their own part of the node area.
+// 40 in the statements of an entry, lent as their own part of the node area.
 pub fn calls40(
     nodes: &[u8],
     base: usize,
+    entry: usize,
     fields: &Marks,
     params: &Marks,
     out: &mut [u16],
     count: usize,
 ) -> usize
-    requires { ⌜ Calling (now nodes) base (now fields) (now params) × (count < 2 ^ 50) ⌝ }
-    ensures { λ r. ⌜ Adds (swept40 nodes base fields params) 2048 out count r ⌝ }
+    requires { ⌜ Calling (now nodes) base (now fields) (now params) × (count < 2 ^ 50) × (entry < 2048) ⌝ }
+    ensures { λ r. ⌜ Adds (inPart entry nodes base (swept40 nodes base fields params)) 2048 out count r ⌝ }
 {
     let end = base + nodes.len() / 16;
     let mut total = count;
     let mut p = base;
     while p < end {
-        total = records::emit_if(rule40(nodes, base, p, fields, params), out, total, 40, p);
+        total = records::emit_if(
+            rule40(nodes, base, p, fields, params),
+            out,
+            total,
+            40,
+            p,
+            entry,
+        );
         p += 1;
     }
     total
@@ -128,7 +145,7 @@ pub fn is_clean(
     method: &Marks,
 ) -> bool
     requires { ⌜ Calling (now nodes) base (now fields) (now params) × CallWords (now nodes) base (now builtin) (now method) ⌝ }
-    ensures { λ r. ⌜ (r ≡ true → ((T : Calling (old nodes) base (old fields) (old params)) → swept40 nodes base fields params T ≡ []) × ((T : CallWords (old nodes) base (old builtin) (old method)) → swept34 nodes base builtin method T ≡ [])) ⌝ }
+    ensures { λ r. ⌜ (r ≡ true → ((T : Calling (old nodes) base (old fields) (old params)) → swept40 nodes base fields params T .list ≡ []) × ((T : CallWords (old nodes) base (old builtin) (old method)) → swept34 nodes base builtin method T .list ≡ [])) ⌝ }
 {
     let end = base + nodes.len() / 16;
     let mut p = base;

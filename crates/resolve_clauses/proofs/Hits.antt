@@ -46,6 +46,9 @@ module _ {part : List ℕ} {b p : ℕ} (W : View part b) (i : In part b p) (k : 
   pub type-in : In part b (p + 2)
   type-in = let h = past W i in let w = i .0 in let y = declared .type-node .inside in there W (omega arith) (omega arith)
 
+  pub signer-after : p < treeOf W .end (p + 2)
+  signer-after = let y = declared .type-node .past in omega arith
+
   pub signer-in : {s : ℕ} → s ≡ treeOf W .end (p + 2) → s < treeOf W .end p → Worded part b s
   signer-in {s} e l = record { view = W; here = go (declared .option) .0; carries = inl (ap (treeOf W .kind) e ∙ go (declared .option) .1) }
     where

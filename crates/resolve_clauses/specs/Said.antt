@@ -12,6 +12,7 @@ use Rattle.rules.specs.Vocabulary.{Rec, rec, only, below}
 use Rattle.rules.specs.Model.{isState, isDeclaredAsset, isKnownAsset}
 use Rattle.rules.specs.Resolve.{rule33, clauseRule}
 use Rattle.records.specs.Words.{Lent, old}
+use Rattle.records.specs.Records.{Entered, on}
 use Rattle.nodes.specs.Shown.{View, treeOf}
 use Rattle.nodes.specs.Marks.{Marks}
 use Rattle.resolve_clauses.specs.declared.Rule.{Rule}
@@ -55,8 +56,8 @@ abbrev pub clause36 : Tree → ℕ → List Rec
 clause36 t p = keep (has (t .kind p) naming) (clauseRules t) p
 
 -- what F says of the tree of the nodes that are lent (and of what the table says)
-abbrev pub told : ((List ℕ → Bool) → Tree → List Rec) → (nodes : Lent (List ℕ)) (base : ℕ) (marks : Lent (List Bool)) → OneTable (old nodes) base (old marks) → List Rec
-told F nodes base marks T = F (T .says) (treeOf (T .view))
+abbrev pub told : ((List ℕ → Bool) → Tree → List Rec) → (nodes : Lent (List ℕ)) (base : ℕ) (marks : Lent (List Bool)) → OneTable (old nodes) base (old marks) → Entered
+told F nodes base marks T = on (F (T .says)) (treeOf (T .view))
 
-abbrev pub listed : (Tree → List Rec) → (nodes : Lent (List ℕ)) (state declared known : Lent (List Bool)) → AssetMarks (old nodes) (old state) (old declared) (old known) → List Rec
-listed F nodes state declared known T = F (treeOf (T .view))
+abbrev pub listed : (Tree → List Rec) → (nodes : Lent (List ℕ)) (state declared known : Lent (List Bool)) → AssetMarks (old nodes) (old state) (old declared) (old known) → Entered
+listed F nodes state declared known T = on F (treeOf (T .view))

@@ -10,6 +10,7 @@ use Rattle.rules.specs.Words.{deployer}
 use Rattle.rules.specs.Vocabulary.{Rec, below}
 use Rattle.rules.specs.Resolve.{rule32, deployerOf}
 use Rattle.records.specs.Words.{Lent, old}
+use Rattle.records.specs.Records.{Entered, on}
 use Rattle.nodes.specs.Shown.{View, In, treeOf}
 use Rattle.nodes.specs.Marks.{Marks}
 use Rattle.names.specs.Found.{Numbered}
@@ -41,8 +42,8 @@ abbrev pub item32 : Tree → ℕ → List Rec
 item32 t p = keep (has (t .kind p) kinds.invariant-entry) (deployerOf t) p
 
 -- what F says of the tree of the nodes that are lent
-abbrev pub deployed : (Tree → List Rec) → (nodes : Lent (List ℕ)) (base : ℕ) (marks : Lent (List Bool)) → Deployed (old nodes) base (old marks) → List Rec
-deployed F nodes base marks T = F (treeOf (T .view))
+abbrev pub deployed : (Tree → List Rec) → (nodes : Lent (List ℕ)) (base : ℕ) (marks : Lent (List Bool)) → Deployed (old nodes) base (old marks) → Entered
+deployed F nodes base marks T = on F (treeOf (T .view))
 
-abbrev pub byDeployer : (Tree → List Rec) → (nodes : Lent (List ℕ)) (number : ℕ) → DeployerIs (old nodes) number → List Rec
-byDeployer F nodes number T = F (treeOf (T .view))
+abbrev pub byDeployer : (Tree → List Rec) → (nodes : Lent (List ℕ)) (number : ℕ) → DeployerIs (old nodes) number → Entered
+byDeployer F nodes number T = on F (treeOf (T .view))

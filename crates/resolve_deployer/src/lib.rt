@@ -14,20 +14,29 @@ ghost use Rattle.rules.specs.Tree.{limits-denies-after};
 ghost use Rattle.rules.specs.Vocabulary.{below};
 ghost use Rattle.rules.specs.Resolve.{deployerIn, group32};
 ghost use Rattle.records.specs.Records.{Adds};
+ghost use Rattle.nodes.specs.Entries.{inNode};
 ghost use Rattle.nodes.specs.Shown.{In};
 ghost use Rattle.nodes.specs.First.{Head};
 ghost use Rattle.resolve_deployer.specs.Deployed.{Deployed, DeployerIs, IsEntry, deployed, byDeployer, identRules, clause32, item32};
 
-// 32 in a child of an entry, if it is a Limits, Denies or After clause.
-fn clause32(nodes: &[u8], p: usize, deployer: &Marks, out: &mut [u16], count: usize) -> usize
-    requires { ⌜ Deployed (now nodes) 0 (now deployer) × In (now nodes) 0 p × (count < 2 ^ 50) ⌝ }
-    ensures { λ r. ⌜ Adds (deployed (λ t. clause32 t p) nodes 0 deployer) 2048 out count r ⌝ }
+// 32 in a child of the entry, if it is a Limits, Denies or After clause.
+fn clause32(
+    nodes: &[u8],
+    entry: usize,
+    p: usize,
+    deployer: &Marks,
+    out: &mut [u16],
+    count: usize,
+) -> usize
+    requires { ⌜ Deployed (now nodes) 0 (now deployer) × In (now nodes) 0 p × (count < 2 ^ 50) × (entry < 2048) ⌝ }
+    ensures { λ r. ⌜ Adds (inNode entry nodes p (deployed (λ t. clause32 t p) nodes 0 deployer)) 2048 out count r ⌝ }
 {
     match nodes::kind(nodes, 0, p) {
         LIMITS..=AFTER => resolve_clauses::within(
             Rule(IDENT, true, 32),
             nodes,
             p,
+            entry,
             deployer,
             out,
             count,
@@ -55,7 +64,7 @@ fn clauses32(
         end: to,
     };
     while children.at < children.end {
-        total = clause32(nodes, children.at, deployer, out, total);
+        total = clause32(nodes, entry, children.at, deployer, out, total);
         children = children.step(nodes).rest;
     }
     total
@@ -84,6 +93,7 @@ fn entry32(nodes: &[u8], entry: usize, deployer: &Marks, out: &mut [u16], count:
         first,
         first,
         end,
+        entry,
         deployer,
         out,
         signed,
@@ -102,6 +112,7 @@ fn item32(nodes: &[u8], item: usize, deployer: &Marks, out: &mut [u16], count: u
             Rule(IDENT, true, 32),
             nodes,
             item,
+            0,
             deployer,
             out,
             count,

@@ -7,6 +7,7 @@ use Rattle.rules.specs.Tree.{Tree, event, emit}
 use Rattle.rules.specs.Vocabulary.{Rec}
 use Rattle.rules.specs.Resolve.{rule30, rule31}
 use Rattle.records.specs.Words.{Lent, old}
+use Rattle.records.specs.Records.{Entered, on}
 use Rattle.nodes.specs.Shown.{View, Shown, In, treeOf}
 use Rattle.nodes.specs.Statements.{Statements}
 use Rattle.places.specs.Places.{Places, lastOf}
@@ -36,8 +37,8 @@ abbrev pub at30 : ℕ → Tree → List Rec
 at30 p t = keep (has (t .kind p) emit) (emitRules t) p
 
 -- what F says of the tree of the nodes that are lent, by each of these
-abbrev pub emitting : (Tree → List Rec) → (nodes : Lent (List ℕ)) (base : ℕ) (last : Lent (List ℕ)) → EventNotes (old nodes) base (old last) → List Rec
-emitting F nodes base last T = F (treeOf (T .view))
+abbrev pub emitting : (Tree → List Rec) → (nodes : Lent (List ℕ)) (base : ℕ) (last : Lent (List ℕ)) → EventNotes (old nodes) base (old last) → Entered
+emitting F nodes base last T = on F (treeOf (T .view))
 
-abbrev pub emitted : (Tree → List Rec) → (nodes : Lent (List ℕ)) (base : ℕ) (area last : Lent (List ℕ)) → Emitted (old nodes) base (old area) (old last) → List Rec
-emitted F nodes base area last T = F (treeOf (T .body .view))
+abbrev pub emitted : (Tree → List Rec) → (nodes : Lent (List ℕ)) (base : ℕ) (area last : Lent (List ℕ)) → Emitted (old nodes) base (old area) (old last) → Entered
+emitted F nodes base area last T = on F (treeOf (T .body .view))

@@ -11,6 +11,7 @@ ghost use Rattle.rules.specs.Resolve.{rule30, rule31};
 ghost use Rattle.records.specs.Words.{old};
 ghost use Rattle.records.specs.Records.{Adds, Asks};
 ghost use Rattle.nodes.specs.Shown.{View, In, treeOf};
+ghost use Rattle.nodes.specs.Entries.{inPart};
 ghost use Rattle.resolve_emits.specs.Emitted.{IsKind, EventNotes, Emitted, at30, emitting, emitted};
 
 // The number of arguments of an Emit: a cursor over its children after the Name, moved past one child at each step.
@@ -60,22 +61,23 @@ fn rule31(nodes: &[u8], base: usize, emit: usize, area: &[u8], last: &Places) ->
     arguments(area, emit) != parameters(area, event)
 }
 
-// 30 and 31 at a node, if it is an Emit.
+// 30 and 31 at a node of an item's statements, if it is an Emit; they stand in this entry (0: in none).
 pub fn emit(
     nodes: &[u8],
     base: usize,
+    entry: usize,
     p: usize,
     area: &[u8],
     last: &Places,
     out: &mut [u16],
     count: usize,
 ) -> usize
-    requires { ⌜ Emitted (now nodes) base (now area) (now last) × In (now nodes) base p × (count < 2 ^ 55) ⌝ }
-    ensures { λ r. ⌜ Adds (emitted (at30 p) nodes base area last) 2 out count r ⌝ }
+    requires { ⌜ Emitted (now nodes) base (now area) (now last) × In (now nodes) base p × (count < 2 ^ 55) × (entry < 2048) ⌝ }
+    ensures { λ r. ⌜ Adds (inPart entry nodes base (emitted (at30 p) nodes base area last)) 2 out count r ⌝ }
 {
     if nodes::kind(nodes, base, p) != EMIT {
         return count;
     }
-    let total = records::emit_if(rule30(nodes, base, p, last), out, count, 30, p);
-    records::emit_if(rule31(nodes, base, p, area, last), out, total, 31, p)
+    let total = records::emit_if(rule30(nodes, base, p, last), out, count, 30, p, entry);
+    records::emit_if(rule31(nodes, base, p, area, last), out, total, 31, p, entry)
 }

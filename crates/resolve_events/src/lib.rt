@@ -14,26 +14,28 @@ ghost use Prim.Native.Nat.{_*_, _<_, _^_};
 ghost use Rattle.rules.specs.Tree.{event, genesis};
 ghost use Rattle.rules.specs.Resolve.{emits, group30};
 ghost use Rattle.records.specs.Words.{old};
-ghost use Rattle.records.specs.Records.{Adds};
+ghost use Rattle.records.specs.Records.{Adds, on};
 ghost use Rattle.nodes.specs.Shown.{View, In, treeOf};
 ghost use Rattle.nodes.specs.Items.{NoItem};
+ghost use Rattle.nodes.specs.Entries.{inPart};
 ghost use Rattle.items.specs.Found.{ItemsOf};
 ghost use Rattle.places.specs.declared.Note.the-variants.{Last};
 ghost use Rattle.places.specs.Places.{Notes, notesBelow};
 ghost use Rattle.resolve_emits.specs.Emitted.{Emitted};
 ghost use Rattle.resolve_events.specs.Events.{Bodied, Events, item30, swept30, events};
 
-// 30 and 31 in an item's statements, each from the end of the one before it; they are lent as their own part of the node area, which starts with number `base`.
+// 30 and 31 in an item's statements, each from the end of the one before it; they stand in this entry (0: in none), and are lent as their own part of the node area, which starts with number `base`.
 fn statements(
     nodes: &[u8],
     base: usize,
+    entry: usize,
     area: &[u8],
     last: &Places,
     out: &mut [u16],
     count: usize,
 ) -> usize
-    requires { ⌜ Emitted (now nodes) base (now area) (now last) × (count < 2 ^ 50) ⌝ }
-    ensures { λ r. ⌜ Adds (swept30 nodes base area last) 4096 out count r ⌝ }
+    requires { ⌜ Emitted (now nodes) base (now area) (now last) × (count < 2 ^ 50) × (entry < 2048) ⌝ }
+    ensures { λ r. ⌜ Adds (inPart entry nodes base (swept30 nodes base area last)) 4096 out count r ⌝ }
 {
     let end = base + nodes.len() / 16;
     let mut total = count;
@@ -43,7 +45,7 @@ fn statements(
         end,
     };
     while children.at < children.end {
-        total = resolve_emits::emit(nodes, base, children.at, area, last, out, total);
+        total = resolve_emits::emit(nodes, base, entry, children.at, area, last, out, total);
         children = children.step(nodes).rest;
     }
     total
@@ -66,7 +68,8 @@ fn item(
     }
     let first = items::first_statement(nodes, 0, item);
     let body = items::statements(nodes, 0, item, first);
-    statements(body, first, nodes, last, out, count)
+    let entry = items::entry_of(kind, item);
+    statements(body, first, entry, nodes, last, out, count)
 }
 
 // 30 and 31 in the items of this kind, in order.
@@ -113,7 +116,7 @@ fn genesis_emits(has: bool, nodes: &[u8], last: &Places, out: &mut [u16], count:
 // 30 and 31: the entries, then each Genesis.
 pub fn group30(nodes: &[u8], items: Items, out: &mut [u16], count: usize) -> usize
     requires { ⌜ View (now nodes) 0 × In (now nodes) 0 0 × (count < 2 ^ 40) × ItemsOf (now nodes) items ⌝ }
-    ensures { λ r. ⌜ Adds (λ (W : View (old nodes) 0). group30 (treeOf W)) (2 * 4096 * 2048) out count r ⌝ }
+    ensures { λ r. ⌜ Adds (λ (W : View (old nodes) 0). on group30 (treeOf W)) (2 * 4096 * 2048) out count r ⌝ }
 {
     let mut last = [0u16; Image::NAMES];
     note_events(items.event, nodes, &mut last);

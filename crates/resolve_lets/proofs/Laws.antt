@@ -10,7 +10,7 @@ use Rattle.rules.specs.Tree.{Tree, param, «let»}
 use Rattle.rules.specs.Vocabulary.{Rec, rec, only, firstNamed}
 use Rattle.rules.specs.Resolve.{rule26, rule27, rule28, rule29, letRules}
 use Rattle.records.specs.declared.Hit.{Hit}
-use Rattle.records.specs.Records.{AsksAt}
+use Rattle.records.specs.Records.{hitList}
 use Rattle.places.specs.Places.{firstOf}
 use Rattle.places.proofs.Reading.{first-late, first-declares}
 use Rattle.resolve_names.specs.Seen.{metRule, stateRule}
@@ -30,5 +30,5 @@ lets-at t e p true = let y : p + 0 ≡ p = omega arith in let z : firstNamed t �
 lets-at t e p false = refl
 
 -- a record about the node itself
-pub at-itself : {X : Type 0} {F : X → List Rec} (c p : ℕ) (hit : Hit) → AsksAt F c (p + 0) hit → AsksAt F c p hit
+pub at-itself : {X : Type 0} {F : X → List Rec} (c p : ℕ) (hit : Hit) → ((x : X) → F x ≡ hitList hit c (p + 0)) → (x : X) → F x ≡ hitList hit c p
 at-itself c p hit q = let e : p + 0 ≡ p = omega arith in rw e at q

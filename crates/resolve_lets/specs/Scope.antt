@@ -9,6 +9,7 @@ use Rattle.rules.specs.Vocabulary.{Rec, below}
 use Rattle.rules.specs.Model.{isState}
 use Rattle.rules.specs.Resolve.{rule26, rule29, letRules}
 use Rattle.records.specs.Words.{Lent, old, new}
+use Rattle.records.specs.Records.{Entered, on}
 use Rattle.nodes.specs.Shown.{treeOf}
 use Rattle.nodes.specs.Marks.{Marks}
 use Rattle.nodes.specs.State.{State}
@@ -48,17 +49,17 @@ abbrev pub statementNames : Tree → ℕ → ℕ → List Rec
 statementNames t e s = idents26 s t e ++ at27 s t e
 
 -- what F says of the tree of the statements that are lent, and of the entry
-abbrev pub seenLets : (Tree → ℕ → List Rec) → (nodes : Lent (List ℕ)) (base : ℕ) (lets : Lent (List ℕ)) → Lets (old nodes) base (old lets) → List Rec
-seenLets F nodes base lets T = F (treeOf (T .body .view)) (T .body .item)
+abbrev pub seenLets : (Tree → ℕ → List Rec) → (nodes : Lent (List ℕ)) (base : ℕ) (lets : Lent (List ℕ)) → Lets (old nodes) base (old lets) → Entered
+seenLets F nodes base lets T = on (λ t. F t (T .body .item)) (treeOf (T .body .view))
 
-abbrev pub seenBody : (Tree → ℕ → List Rec) → (nodes : Lent (List ℕ)) (base : ℕ) (state : Lent (List Bool)) (params lets : Lent (List ℕ)) → NamingBody (old nodes) base (old state) (old params) (old lets) → List Rec
-seenBody F nodes base state params lets T = F (treeOf (T .scope .body .view)) (T .scope .body .item)
+abbrev pub seenBody : (Tree → ℕ → List Rec) → (nodes : Lent (List ℕ)) (base : ℕ) (state : Lent (List Bool)) (params lets : Lent (List ℕ)) → NamingBody (old nodes) base (old state) (old params) (old lets) → Entered
+seenBody F nodes base state params lets T = on (λ t. F t (T .scope .body .item)) (treeOf (T .scope .body .view))
 
 -- 26 to 29 in all of the statements that are lent
-abbrev pub swept26 : (nodes : Lent (List ℕ)) (base : ℕ) (state : Lent (List Bool)) (params lets : Lent (List ℕ)) → NamingBody (old nodes) base (old state) (old params) (old lets) → List Rec
+abbrev pub swept26 : (nodes : Lent (List ℕ)) (base : ℕ) (state : Lent (List Bool)) (params lets : Lent (List ℕ)) → NamingBody (old nodes) base (old state) (old params) (old lets) → Entered
 swept26 nodes base state params lets T =
     let W = T .scope .body .view in
-    run (λ s. keep (has (treeOf W .kind s) statement) (statementNames (treeOf W) (T .scope .body .item)) s) base (W .upto - base)
+    on (λ t. run (λ s. keep (has (t .kind s) statement) (statementNames t (T .scope .body .item)) s) base (W .upto - base)) (treeOf W)
 
 -- no Let stands in the entry
 abbrev pub NoLet : Tree → ℕ → Type 0
@@ -70,8 +71,8 @@ pub record Scope (nodes : List ℕ) (entry : ℕ) (state : List Bool) (params le
   pub clean : Places (lent .named .view .image) (λ w. 0) lets
 
 -- 26 to 29 in it; the table notes nothing afterwards
-abbrev pub scoped : (entry : ℕ) (nodes : Lent (List ℕ)) (state : Lent (List Bool)) (params lets : Lent (List ℕ)) → Scope (old nodes) entry (old state) (old params) (old lets) → List Rec
-scoped entry nodes state params lets T = let t = treeOf (T .lent .named .view) in below t statement entry (statementNames t entry)
+abbrev pub scoped : (entry : ℕ) (nodes : Lent (List ℕ)) (state : Lent (List Bool)) (params lets : Lent (List ℕ)) → Scope (old nodes) entry (old state) (old params) (old lets) → Entered
+scoped entry nodes state params lets T = on (λ t. below t statement entry (statementNames t entry)) (treeOf (T .lent .named .view))
 
 abbrev pub CleansLets : (nodes : Lent (List ℕ)) (entry : ℕ) (state : Lent (List Bool)) (params lets : Lent (List ℕ)) → Type 0
 CleansLets nodes entry state params lets = (T : Scope (old nodes) entry (old state) (old params) (old lets)) → Places (T .lent .named .view .image) (λ w. 0) (new lets)

@@ -10,6 +10,7 @@ ghost use mathlib.Core.Bool.{false};
 ghost use Prim.Native.Nat.{_*_, _<_, _^_};
 ghost use Rattle.records.specs.Words.{old};
 ghost use Rattle.records.specs.Records.{Adds, Asks};
+ghost use Rattle.nodes.specs.Entries.{inPart};
 ghost use Rattle.nodes.specs.Shown.{View, In, treeOf};
 ghost use Rattle.nodes.specs.First.{Head};
 ghost use Rattle.resolve_names.specs.Seen.{Among, seenAmong};
@@ -26,23 +27,24 @@ fn rule26(nodes: &[u8], base: usize, s: usize, p: usize, lets: &Places) -> bool
     s <= places::at(lets, nodes, base, p)
 }
 
-// 26 in the statement s.
+// 26 in the statement s of the entry.
 fn idents(
     nodes: &[u8],
     base: usize,
+    entry: usize,
     s: usize,
     lets: &Places,
     out: &mut [u16],
     count: usize,
 ) -> usize
-    requires { ⌜ Lets (now nodes) base (now lets) × In (now nodes) base s × (count < 2 ^ 50) ⌝ }
-    ensures { λ r. ⌜ Adds (seenLets (idents26 s) nodes base lets) 2048 out count r ⌝ }
+    requires { ⌜ Lets (now nodes) base (now lets) × In (now nodes) base s × (count < 2 ^ 50) × (entry < 2048) ⌝ }
+    ensures { λ r. ⌜ Adds (inPart entry nodes base (seenLets (idents26 s) nodes base lets)) 2048 out count r ⌝ }
 {
     let end = nodes::end(nodes, base, s);
     let mut total = count;
     let mut p = s + 1;
     while p < end {
-        total = records::emit_if(rule26(nodes, base, s, p, lets), out, total, 26, p);
+        total = records::emit_if(rule26(nodes, base, s, p, lets), out, total, 26, p, entry);
         p += 1;
     }
     total
@@ -59,10 +61,11 @@ fn rule29(nodes: &[u8], base: usize, s: usize, params: &Places) -> bool
     0 < places::at(params, nodes, base, s + 1)
 }
 
-// 27, 28 and 29 at the statement s, if it is a Let.
+// 27, 28 and 29 at the statement s of the entry, if it is a Let.
 fn let_names(
     nodes: &[u8],
     base: usize,
+    entry: usize,
     s: usize,
     state: &Marks,
     params: &Places,
@@ -70,8 +73,8 @@ fn let_names(
     out: &mut [u16],
     count: usize,
 ) -> usize
-    requires { ⌜ NamingBody (now nodes) base (now state) (now params) (now lets) × In (now nodes) base s × (count < 2 ^ 50) ⌝ }
-    ensures { λ r. ⌜ Adds (seenBody (at27 s) nodes base state params lets) 3 out count r ⌝ }
+    requires { ⌜ NamingBody (now nodes) base (now state) (now params) (now lets) × In (now nodes) base s × (count < 2 ^ 50) × (entry < 2048) ⌝ }
+    ensures { λ r. ⌜ Adds (inPart entry nodes base (seenBody (at27 s) nodes base state params lets)) 3 out count r ⌝ }
 {
     let earlier = records::emit_hit(
         resolve_names::met(LET, nodes, base, s, lets, 0),
@@ -79,6 +82,7 @@ fn let_names(
         count,
         27,
         s,
+        entry,
     );
     let named = records::emit_if(
         resolve_names::is_state(LET, nodes, base, s, state),
@@ -86,22 +90,24 @@ fn let_names(
         earlier,
         28,
         s,
+        entry,
     );
-    records::emit_if(rule29(nodes, base, s, params), out, named, 29, s)
+    records::emit_if(rule29(nodes, base, s, params), out, named, 29, s, entry)
 }
 
-// 26 to 29 in an entry's statements, lent as their own part of the node area, which starts with number `base`.
+// 26 to 29 in the statements of an entry, lent as their own part of the node area, which starts with number `base`.
 fn statements(
     nodes: &[u8],
     base: usize,
+    entry: usize,
     state: &Marks,
     params: &Places,
     lets: &Places,
     out: &mut [u16],
     count: usize,
 ) -> usize
-    requires { ⌜ NamingBody (now nodes) base (now state) (now params) (now lets) × (count < 2 ^ 48) ⌝ }
-    ensures { λ r. ⌜ Adds (swept26 nodes base state params lets) (2051 * 2048) out count r ⌝ }
+    requires { ⌜ NamingBody (now nodes) base (now state) (now params) (now lets) × (count < 2 ^ 48) × (entry < 2048) ⌝ }
+    ensures { λ r. ⌜ Adds (inPart entry nodes base (swept26 nodes base state params lets)) (2051 * 2048) out count r ⌝ }
 {
     let end = base + nodes.len() / 16;
     let mut total = count;
@@ -112,8 +118,8 @@ fn statements(
     };
     while children.at < children.end {
         let s = children.at;
-        total = idents(nodes, base, s, lets, out, total);
-        total = let_names(nodes, base, s, state, params, lets, out, total);
+        total = idents(nodes, base, entry, s, lets, out, total);
+        total = let_names(nodes, base, entry, s, state, params, lets, out, total);
         children = children.step(nodes).rest;
     }
     total
@@ -159,7 +165,7 @@ pub fn let_rules(
     }
     places::note_parts(Note::First, LET, nodes, entry, lets);
     let body = items::statements(nodes, 0, entry, first);
-    let total = statements(body, first, state, params, lets, out, count);
+    let total = statements(body, first, entry, state, params, lets, out, count);
     places::note_parts(Note::Off, LET, nodes, entry, lets);
     total
 }

@@ -9,6 +9,7 @@ ghost use Rattle.rules.specs.Resolve.{manyAssets, mintCalls, group22};
 ghost use Rattle.records.specs.Words.{old};
 ghost use Rattle.records.specs.Records.{Adds, Asks};
 ghost use Rattle.nodes.specs.Shown.{View, In, treeOf};
+ghost use Rattle.nodes.specs.Entries.{inPart};
 ghost use Rattle.resolve_mints.specs.Minted.{Minting, at22, item22, minted, swept22};
 
 // 22 at a node of an item's statements: a Call of Ident `mint_asset`, which has the number `mint`.
@@ -25,16 +26,23 @@ fn rule22(nodes: &[u8], base: usize, p: usize, mint: usize) -> bool
     names::is_word(mint, nodes, base, p + 1)
 }
 
-// 22 in an item's statements, lent as their own part of the node area.
-fn calls22(nodes: &[u8], base: usize, mint: usize, out: &mut [u16], count: usize) -> usize
-    requires { ⌜ Minting (now nodes) base mint × (count < 2 ^ 50) ⌝ }
-    ensures { λ r. ⌜ Adds (swept22 nodes base mint) 2048 out count r ⌝ }
+// 22 in an item's statements, lent as their own part of the node area; they stand in this entry (0: in none).
+fn calls22(
+    nodes: &[u8],
+    base: usize,
+    entry: usize,
+    mint: usize,
+    out: &mut [u16],
+    count: usize,
+) -> usize
+    requires { ⌜ Minting (now nodes) base mint × (count < 2 ^ 50) × (entry < 2048) ⌝ }
+    ensures { λ r. ⌜ Adds (inPart entry nodes base (swept22 nodes base mint)) 2048 out count r ⌝ }
 {
     let end = base + nodes.len() / 16;
     let mut total = count;
     let mut p = base;
     while p < end {
-        total = records::emit_if(rule22(nodes, base, p, mint), out, total, 22, p);
+        total = records::emit_if(rule22(nodes, base, p, mint), out, total, 22, p, entry);
         p += 1;
     }
     total
@@ -45,12 +53,14 @@ fn item22(nodes: &[u8], item: usize, mint: usize, out: &mut [u16], count: usize)
     requires { ⌜ Minting (now nodes) 0 mint × In (now nodes) 0 item × (0 < item) × (count < 2 ^ 50) ⌝ }
     ensures { λ r. ⌜ Adds (minted (item22 item) nodes 0 mint) 2048 out count r ⌝ }
 {
-    if !items::is_bodied(nodes::kind(nodes, 0, item)) {
+    let kind = nodes::kind(nodes, 0, item);
+    if !items::is_bodied(kind) {
         return count;
     }
     let first = items::first_statement(nodes, 0, item);
     let body = items::statements(nodes, 0, item, first);
-    calls22(body, first, mint, out, count)
+    let entry = items::entry_of(kind, item);
+    calls22(body, first, entry, mint, out, count)
 }
 
 // 22: the items in order.

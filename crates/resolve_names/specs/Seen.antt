@@ -7,6 +7,7 @@ use Rattle.rules.specs.Tree.{Tree}
 use Rattle.rules.specs.Vocabulary.{Rec, rec, only, firstNamed}
 use Rattle.rules.specs.Model.{isState}
 use Rattle.records.specs.Words.{Lent, old}
+use Rattle.records.specs.Records.{Entered, on}
 use Rattle.nodes.specs.Shown.{View, treeOf}
 use Rattle.places.specs.Places.{Places, firstOf}
 
@@ -34,5 +35,5 @@ abbrev pub atState : ℕ → ℕ → List ℕ → ℕ → Tree → List Rec
 atState code place ks p t = keep (has (t .kind p) ks) (stateRule code place t) p
 
 -- what F says of the tree of the nodes that are lent, and of the holder
-abbrev pub seenAmong : (Tree → ℕ → List Rec) → (nodes : Lent (List ℕ)) (base kind p : ℕ) (firsts : Lent (List ℕ)) → Among (old nodes) base kind p (old firsts) → List Rec
-seenAmong F nodes base kind p firsts T = F (treeOf (T .view)) (T .holder)
+abbrev pub seenAmong : (Tree → ℕ → List Rec) → (nodes : Lent (List ℕ)) (base kind p : ℕ) (firsts : Lent (List ℕ)) → Among (old nodes) base kind p (old firsts) → Entered
+seenAmong F nodes base kind p firsts T = on (λ t. F t (T .holder)) (treeOf (T .view))

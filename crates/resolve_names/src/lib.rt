@@ -8,13 +8,14 @@ use places::Places;
 use records::Hit;
 ghost use mathlib.Core.Path.{_≡_};
 ghost use mathlib.Core.Bool.{false};
+ghost use mathlib.Core.Logic.{_⊎_};
 ghost use mathlib.Core.List.{[], _∷_};
 ghost use Prim.Native.Nat.{ℕ, _+_, _<_, _≤_, _^_};
 ghost use Rattle.rules.specs.Tree.{event};
 ghost use Rattle.rules.specs.Vocabulary.{below};
 ghost use Rattle.rules.specs.Resolve.{group20, group21};
 ghost use Rattle.records.specs.Words.{old};
-ghost use Rattle.records.specs.Records.{Adds, Asks, AsksAt};
+ghost use Rattle.records.specs.Records.{Adds, Asks, AsksAt, on};
 ghost use Rattle.nodes.specs.Shown.{View, In, treeOf};
 ghost use Rattle.nodes.specs.First.{NameFirst, Declaring};
 ghost use Rattle.nodes.specs.State.{State, seen};
@@ -36,10 +37,10 @@ pub fn met(kind: usize, nodes: &[u8], base: usize, p: usize, firsts: &Places, na
     Hit::At((first + name) as u16)
 }
 
-// The items or the fields of this kind whose name is met before.
+// The fields or the events whose name is met before: they stand in no entry.
 fn repeated(kind: usize, code: u16, nodes: &[u8], out: &mut [u16], count: usize) -> usize
-    requires { ⌜ Declaring kind × View (now nodes) 0 × In (now nodes) 0 0 × (count < 2 ^ 50) ⌝ }
-    ensures { λ r. ⌜ Adds (λ (W : View (old nodes) 0). below (treeOf W) (kind ∷ []) 0 (metRule code (kind ∷ []) 1 (treeOf W) 0)) 2048 out count r ⌝ }
+    requires { ⌜ Declaring kind × View (now nodes) 0 × In (now nodes) 0 0 × (count < 2 ^ 50) × ((kind ≡ 4) ⊎ (kind ≡ 5)) ⌝ }
+    ensures { λ r. ⌜ Adds (λ (W : View (old nodes) 0). on (λ t. below t (kind ∷ []) 0 (metRule code (kind ∷ []) 1 t 0)) (treeOf W)) 2048 out count r ⌝ }
 {
     let mut firsts = [0u16; Image::NAMES];
     places::note_names(Note::First, kind, nodes, &mut firsts);
@@ -47,7 +48,14 @@ fn repeated(kind: usize, code: u16, nodes: &[u8], out: &mut [u16], count: usize)
     let mut total = count;
     let mut p = 1;
     while p < end {
-        total = records::emit_hit(met(kind, nodes, 0, p, &firsts, 1), out, total, code, p + 1);
+        total = records::emit_hit(
+            met(kind, nodes, 0, p, &firsts, 1),
+            out,
+            total,
+            code,
+            p + 1,
+            0,
+        );
         p = nodes::next_declaration(nodes, 0, p);
     }
     total
@@ -56,7 +64,7 @@ fn repeated(kind: usize, code: u16, nodes: &[u8], out: &mut [u16], count: usize)
 // 20: field name met before.
 pub fn group20(nodes: &[u8], out: &mut [u16], count: usize) -> usize
     requires { ⌜ View (now nodes) 0 × In (now nodes) 0 0 × (count < 2 ^ 50) ⌝ }
-    ensures { λ r. ⌜ Adds (λ (W : View (old nodes) 0). group20 (treeOf W)) 2048 out count r ⌝ }
+    ensures { λ r. ⌜ Adds (λ (W : View (old nodes) 0). on group20 (treeOf W)) 2048 out count r ⌝ }
 {
     repeated(FIELD_DECL, 20, nodes, out, count)
 }
@@ -64,7 +72,7 @@ pub fn group20(nodes: &[u8], out: &mut [u16], count: usize) -> usize
 // 21: event name met before; nothing where the contract has no Event.
 pub fn group21(has: bool, nodes: &[u8], out: &mut [u16], count: usize) -> usize
     requires { ⌜ View (now nodes) 0 × In (now nodes) 0 0 × (count < 2 ^ 50) × (has ≡ false → NoItem event (now nodes)) ⌝ }
-    ensures { λ r. ⌜ Adds (λ (W : View (old nodes) 0). group21 (treeOf W)) 2048 out count r ⌝ }
+    ensures { λ r. ⌜ Adds (λ (W : View (old nodes) 0). on group21 (treeOf W)) 2048 out count r ⌝ }
 {
     if !has {
         return count;

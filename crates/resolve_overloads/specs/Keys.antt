@@ -12,6 +12,7 @@ use Rattle.rules.specs.Tree.{Tree, tree, entry}
 use Rattle.rules.specs.Vocabulary.{Rec}
 use Rattle.rules.specs.Resolve.{signature, firstSigned}
 use Rattle.records.specs.Words.{Lent, old, new}
+use Rattle.records.specs.Records.{Entered, on}
 use Rattle.nodes.specs.Shown.{View, treeOf, number}
 use Rattle.signature.specs.Keys.{isParam}
 use Rattle.resolve_overloads.specs.Entries.{Entries, EntryAt}
@@ -82,8 +83,8 @@ pub record Sought (nodes : List ℕ) (e key : ℕ) (heads links keys : List ℕ)
   pub chains : Chains (it .view .image) e heads links keys
 
 -- what F says of the tree of the nodes that are lent; and the tables have the item too
-abbrev pub chained : (Tree → List Rec) → (nodes : Lent (List ℕ)) (p : ℕ) (heads links keys : Lent (List ℕ)) → Chained (old nodes) p (old heads) (old links) (old keys) → List Rec
-chained F nodes p heads links keys C = F (treeOf (C .view))
+abbrev pub chained : (Tree → List Rec) → (nodes : Lent (List ℕ)) (p : ℕ) (heads links keys : Lent (List ℕ)) → Chained (old nodes) p (old heads) (old links) (old keys) → Entered
+chained F nodes p heads links keys C = on F (treeOf (C .view))
 
 abbrev pub Chaining : (nodes : Lent (List ℕ)) (p : ℕ) (heads links keys : Lent (List ℕ)) → Type 0
 Chaining nodes p heads links keys = (C : Chained (old nodes) p (old heads) (old links) (old keys)) → Chains (C .view .image) (p + 1) (new heads) (new links) (new keys)

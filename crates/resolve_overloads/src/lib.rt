@@ -15,7 +15,7 @@ ghost use lib.ListN.{getD, set};
 ghost use Rattle.image.specs.Pick.{both};
 ghost use Rattle.rules.specs.Resolve.{signature, firstSigned, group23};
 ghost use Rattle.records.specs.Words.{old, new};
-ghost use Rattle.records.specs.Records.{Adds};
+ghost use Rattle.records.specs.Records.{Adds, on};
 ghost use Rattle.nodes.specs.Shown.{View, In, treeOf};
 ghost use Rattle.signature.specs.Alike.{sameNode, sameType, signedAs};
 ghost use Rattle.resolve_overloads.specs.Entries.{Entries, EntryAt, Seen, at23, Passes};
@@ -249,7 +249,14 @@ fn entry(
     let key = entry_key(nodes, item);
     let first = first_signed(nodes, item, key, heads, links, keys);
     if first < item {
-        return records::emit(out, count, 23, (item + 1) as u16, (first + 1) as u16);
+        return records::emit(
+            out,
+            count,
+            23,
+            (item + 1) as u16,
+            (first + 1) as u16,
+            item as u16,
+        );
     }
     enter(item, key, heads, links, keys);
     count
@@ -284,7 +291,7 @@ fn entries(
 // The same with tables of its own.
 fn compared(nodes: &[u8], out: &mut [u16], count: usize) -> usize
     requires { ⌜ View (now nodes) 0 × In (now nodes) 0 0 × (count < 2 ^ 40) ⌝ }
-    ensures { λ r. ⌜ Adds (λ (W : View (old nodes) 0). group23 (treeOf W)) 2048 out count r ⌝ }
+    ensures { λ r. ⌜ Adds (λ (W : View (old nodes) 0). on group23 (treeOf W)) 2048 out count r ⌝ }
 {
     let mut heads = [0u16; 4096];
     let mut links = [0u16; Image::NODES];
@@ -330,7 +337,7 @@ fn repeats(nodes: &[u8], seen: &mut Marks) -> bool
 // The records of group 23.
 pub fn group23(nodes: &[u8], out: &mut [u16], count: usize) -> usize
     requires { ⌜ View (now nodes) 0 × In (now nodes) 0 0 × (count < 2 ^ 40) ⌝ }
-    ensures { λ r. ⌜ Adds (λ (W : View (old nodes) 0). group23 (treeOf W)) 2048 out count r ⌝ }
+    ensures { λ r. ⌜ Adds (λ (W : View (old nodes) 0). on group23 (treeOf W)) 2048 out count r ⌝ }
 {
     let mut seen = [false; Image::NAMES];
     if !repeats(nodes, &mut seen) {

@@ -7,6 +7,7 @@ use Rattle.rules.specs.Tree.{Tree, param, entry}
 use Rattle.rules.specs.Vocabulary.{Rec, below}
 use Rattle.rules.specs.Resolve.{rule24, rule25, entryNames}
 use Rattle.records.specs.Words.{Lent, old, new}
+use Rattle.records.specs.Records.{Entered, on}
 use Rattle.nodes.specs.Shown.{treeOf}
 use Rattle.nodes.specs.State.{State}
 use Rattle.places.specs.Places.{Places}
@@ -26,8 +27,8 @@ abbrev pub item24 : ℕ → Tree → List Rec
 item24 p t = keep (has (t .kind p) entry) (entryNames t) p
 
 -- what F says of the tree of the nodes that are lent
-abbrev pub seenNames : (Tree → List Rec) → (nodes : Lent (List ℕ)) (state : Lent (List Bool)) (params lets : Lent (List ℕ)) → NameTables (old nodes) (old state) (old params) (old lets) → List Rec
-seenNames F nodes state params lets T = F (treeOf (T .named .view))
+abbrev pub seenNames : (Tree → List Rec) → (nodes : Lent (List ℕ)) (state : Lent (List Bool)) (params lets : Lent (List ℕ)) → NameTables (old nodes) (old state) (old params) (old lets) → Entered
+seenNames F nodes state params lets T = on F (treeOf (T .named .view))
 
 -- nothing is noted afterwards
 abbrev pub CleansNoted : (nodes : Lent (List ℕ)) (state : Lent (List Bool)) (params lets : Lent (List ℕ)) → Type 0

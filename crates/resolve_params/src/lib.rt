@@ -9,7 +9,7 @@ use places::Places;
 ghost use Prim.Native.Nat.{_*_, _<_, _^_};
 ghost use Rattle.rules.specs.Resolve.{group24};
 ghost use Rattle.records.specs.Words.{old};
-ghost use Rattle.records.specs.Records.{Adds};
+ghost use Rattle.records.specs.Records.{Adds, on};
 ghost use Rattle.nodes.specs.Shown.{In, treeOf};
 ghost use Rattle.nodes.specs.First.{Head};
 ghost use Rattle.nodes.specs.State.{State, seen};
@@ -27,7 +27,7 @@ fn parameters(
     count: usize,
 ) -> usize
     requires { ⌜ Params (now nodes) entry (now state) (now params) × Head (now nodes) 0 entry to × (count < 2 ^ 50) ⌝ }
-    ensures { λ r. ⌜ Adds (λ (T : Params (old nodes) entry (old state) (old params)). parameterRules (treeOf (T .named .view)) entry) (2 * 2048) out count r ⌝ }
+    ensures { λ r. ⌜ Adds (λ (T : Params (old nodes) entry (old state) (old params)). on (λ t. parameterRules t entry) (treeOf (T .named .view))) (2 * 2048) out count r ⌝ }
 {
     let mut total = count;
     let mut children = Cursor {
@@ -43,6 +43,7 @@ fn parameters(
             total,
             24,
             p + 1,
+            entry,
         );
         total = records::emit_hit(
             resolve_names::met(PARAM, nodes, 0, p, params, 1),
@@ -50,6 +51,7 @@ fn parameters(
             total,
             25,
             p + 1,
+            entry,
         );
         children = children.step(nodes).rest;
     }

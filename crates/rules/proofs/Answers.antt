@@ -1,8 +1,8 @@
 -- The answers of specs/Answers, case by case: refused, admitted; and what a list, or a part of one, leaves in its buffer.
 use Prim.Native.Nat.{ℕ, zero, suc, _+_, _*_, _<_, _≤_}
-use mathlib.Core.Path.{_≡_, refl, ap, _∙_, sym, subst}
+use mathlib.Core.Path.{_≡_, refl, ap, ap₂, _∙_, sym, subst}
 use mathlib.Core.Bool.{Bool, true, false}
-use mathlib.Core.List.{List, [], _∷_, _++_, List·Memᴰ, List·Memᴰ·head, List·Memᴰ·not-nil}
+use mathlib.Core.List.{List, [], _∷_, _++_, List·Memᴰ, List·Memᴰ·head, List·Memᴰ·tail, List·Memᴰ·not-nil}
 use mathlib.Core.Logic.{_⊎_, inl, inr, ⊎-elim}
 use native.Mathlib.Omega.{arith}
 use borrow.Author.Tests.{ltb-true, ltb-false, lt-ltb, le-ltb, eqb-true, eqb-false, eq-eqb, ne-eqb}
@@ -18,7 +18,7 @@ use Rattle.rules.specs.Vocabulary.{Rec}
 use Rattle.rules.specs.Resolve.{resolve}
 use Rattle.rules.specs.Access.{access}
 use Rattle.rules.specs.Linear.{linear}
-use Rattle.rules.specs.All.{offences}
+use Rattle.rules.specs.All.{offences, entryOf}
 use Rattle.rules.specs.Passes.{PassRules, None, FirstOffence}
 use Rattle.rules.specs.Answers.{IsRefused, IsAdmitted, imageRefused, accepted, refusedAt, verdict, passAnswer, NameReply, replyRefused, replied, ask, words, laid, ListReply, listRefused, listHas, listAnswer, listBuffer, partCount, partBuffer, partAnswer, partWords, onRest, InTurn}
 use Rattle.rules.proofs.Passes.{Judges}
@@ -88,23 +88,29 @@ module _ (q : Tree → List ℕ → Bool) (s w : List ℕ) where
 
 -- Words and buffers
 
-pub length-words : (l : List Rec) → length (words l) ≡ 3 * length l
-length-words [] = refl
-length-words (r ∷ l) = let h : length (words l) ≡ 3 * length l = length-words l in omega arith
+pub length-words : (e : ℕ → ℕ) (l : List Rec) → length (words e l) ≡ 4 * length l
+length-words e [] = refl
+length-words e (r ∷ l) = let h : length (words e l) ≡ 4 * length l = length-words e l in omega arith
 
-pub words-append : (a b : List Rec) → words (a ++ b) ≡ words a ++ words b
-words-append [] b = refl
-words-append (r ∷ a) b = ap (λ (l : List ℕ). r .code ∷ r .place ∷ r .related ∷ l) (words-append a b)
+pub words-append : (e : ℕ → ℕ) (a b : List Rec) → words e (a ++ b) ≡ words e a ++ words e b
+words-append e [] b = refl
+words-append e (r ∷ a) b = ap (λ (l : List ℕ). r .code ∷ r .place ∷ r .related ∷ e (r .place) ∷ l) (words-append e a b)
+
+-- where two give the places of the records the same entries, the words are the same
+pub words-same : (d e : ℕ → ℕ) (l : List Rec) → ((r : Rec) → List·Memᴰ r l → d (r .place) ≡ e (r .place)) → words d l ≡ words e l
+words-same d e [] h = refl
+words-same d e (r ∷ l) h =
+    ap₂ (λ (n : ℕ) (m : List ℕ). r .code ∷ r .place ∷ r .related ∷ n ∷ m) (h r (List·Memᴰ·head refl)) (words-same d e l (λ q m. h q (List·Memᴰ·tail m)))
 
 pub sets-append : (o : List ℕ) (i : ℕ) (v w : List ℕ) → sets o i (v ++ w) ≡ sets (sets o i v) (i + length v) w
 sets-append o i [] w = ap (λ (n : ℕ). sets o n w) (omega arith)
 sets-append o i (x ∷ v) w = sets-append (set o i x) (suc i) v w ∙ ap (λ (n : ℕ). sets (sets (set o i x) (suc i) v) n w) (omega arith)
 
-pub laid-append : (o : List ℕ) (k : ℕ) (a b : List Rec) → laid o k (a ++ b) ≡ laid (laid o k a) (k + length a) b
-laid-append o k a b =
-    ap (sets o (3 * k)) (words-append a b)
-    ∙ sets-append o (3 * k) (words a) (words b)
-    ∙ ap (λ (n : ℕ). sets (sets o (3 * k) (words a)) n (words b)) (omega (arith, length-words a))
+pub laid-append : (e : ℕ → ℕ) (o : List ℕ) (k : ℕ) (a b : List Rec) → laid e o k (a ++ b) ≡ laid e (laid e o k a) (k + length a) b
+laid-append e o k a b =
+    ap (sets o (4 * k)) (words-append e a b)
+    ∙ sets-append o (4 * k) (words e a) (words e b)
+    ∙ ap (λ (n : ℕ). sets (sets o (4 * k) (words e a)) n (words e b)) (omega (arith, length-words e a))
 
 -- a store past the start of a buffer is a store into the rest of it
 sets-nil : (i : ℕ) (v : List ℕ) → sets [] i v ≡ []
@@ -123,14 +129,17 @@ sets-rest (y ∷ o) (suc i) v = sets-cons y o i v ∙ ap (λ (l : List ℕ). y �
 pub in-turn : InTurn
 unfolding offences
 in-turn s o =
-    laid-append o 0 (resolve t) (access t ++ linear t)
-    ∙ laid-append (laid o 0 (resolve t)) (0 + a) (access t) (linear t)
-    ∙ ap (λ (n : ℕ). laid (laid (laid o 0 (resolve t)) n (access t)) (n + b) (linear t)) (omega arith)
-    ∙ sets-rest (laid (laid o 0 (resolve t)) a (access t)) (3 * (a + b)) (words (linear t))
-    ∙ ap (λ (l : List ℕ). onRest (a + b) (partBuffer linear s) l) (sets-rest (laid o 0 (resolve t)) (3 * a) (words (access t)))
+    laid-append w o 0 (resolve t) (access t ++ linear t)
+    ∙ laid-append w (laid w o 0 (resolve t)) (0 + a) (access t) (linear t)
+    ∙ ap (λ (n : ℕ). laid w (laid w (laid w o 0 (resolve t)) n (access t)) (n + b) (linear t)) (omega arith)
+    ∙ sets-rest (laid w (laid w o 0 (resolve t)) a (access t)) (4 * (a + b)) (words w (linear t))
+    ∙ ap (λ (l : List ℕ). onRest (a + b) (partBuffer linear s) l) (sets-rest (laid w o 0 (resolve t)) (4 * a) (words w (access t)))
   where
     t : Tree
     t = tree s
+
+    w : ℕ → ℕ
+    w = entryOf t
 
     a : ℕ
     a = partCount resolve s
@@ -156,17 +165,17 @@ sets-at o i (x ∷ v) (suc k) l h =
     let z : i + suc k ≡ suc i + k = omega arith in
     ap (λ (n : ℕ). getD (sets (set o i x) (suc i) v) n 0) z ∙ sets-at (set o i x) (suc i) v k (omega arith) (let e = length-set o i x in omega arith)
 
-module _ (o : List ℕ) (l : List Rec) where
-  pub laid-long : length (laid o 0 l) ≡ length o
-  laid-long = length-sets o 0 (words l)
+module _ (e : ℕ → ℕ) (o : List ℕ) (l : List Rec) where
+  pub laid-long : length (laid e o 0 l) ≡ length o
+  laid-long = length-sets o 0 (words e l)
 
-  pub laid-written : (i : ℕ) → i < 3 * length l → i < length o → getD (laid o 0 l) i 0 ≡ getD (words l) i 0
+  pub laid-written : (i : ℕ) → i < 4 * length l → i < length o → getD (laid e o 0 l) i 0 ≡ getD (words e l) i 0
   laid-written i h g =
       let z : i ≡ 0 + i = omega arith in
-      ap (λ (n : ℕ). getD (laid o 0 l) n 0) z ∙ sets-at o 0 (words l) i (let e = length-words l in omega arith) (omega arith)
+      ap (λ (n : ℕ). getD (laid e o 0 l) n 0) z ∙ sets-at o 0 (words e l) i (let n = length-words e l in omega arith) (omega arith)
 
-  pub laid-kept : (i : ℕ) → 3 * length l ≤ i → getD (laid o 0 l) i 0 ≡ getD o i 0
-  laid-kept i h = sets-past o 0 (words l) i (let e = length-words l in omega arith)
+  pub laid-kept : (i : ℕ) → 4 * length l ≤ i → getD (laid e o 0 l) i 0 ≡ getD o i 0
+  laid-kept i h = sets-past o 0 (words e l) i (let n = length-words e l in omega arith)
 
 -- The list
 
@@ -174,59 +183,63 @@ module _ (s : List ℕ) where
   abbrev count : ℕ
   count = length (offences (tree s))
 
+  -- the list in the buffer o
+  abbrev whole : List ℕ → List ℕ
+  whole o = laid (entryOf (tree s)) o 0 (offences (tree s))
+
   pub list-refused : (n : ℕ) → IsRefused s → listAnswer s n ≡ listRefused (refusal s)
   unfolding listAnswer
-  list-refused n r = ap (λ (b : Bool). pick b (pick (ltb n (3 * count)) (listRefused 9) (listHas count)) (listRefused (refusal s))) (ne-eqb (refusal s) 0 r)
+  list-refused n r = ap (λ (b : Bool). pick b (pick (ltb n (4 * count)) (listRefused 9) (listHas count)) (listRefused (refusal s))) (ne-eqb (refusal s) 0 r)
 
-  admits : (n : ℕ) → IsAdmitted s → listAnswer s n ≡ pick (ltb n (3 * count)) (listRefused 9) (listHas count)
+  admits : (n : ℕ) → IsAdmitted s → listAnswer s n ≡ pick (ltb n (4 * count)) (listRefused 9) (listHas count)
   unfolding listAnswer
-  admits n e = ap (λ (b : Bool). pick b (pick (ltb n (3 * count)) (listRefused 9) (listHas count)) (listRefused (refusal s))) (eq-eqb (refusal s) 0 e)
+  admits n e = ap (λ (b : Bool). pick b (pick (ltb n (4 * count)) (listRefused 9) (listHas count)) (listRefused (refusal s))) (eq-eqb (refusal s) 0 e)
 
-  pub list-short : (n : ℕ) → IsAdmitted s → n < 3 * count → listAnswer s n ≡ listRefused 9
-  list-short n e l = admits n e ∙ ap (λ (b : Bool). pick b (listRefused 9) (listHas count)) (lt-ltb n (3 * count) l)
+  pub list-short : (n : ℕ) → IsAdmitted s → n < 4 * count → listAnswer s n ≡ listRefused 9
+  list-short n e l = admits n e ∙ ap (λ (b : Bool). pick b (listRefused 9) (listHas count)) (lt-ltb n (4 * count) l)
 
-  pub list-listed : (n : ℕ) → IsAdmitted s → 3 * count ≤ n → listAnswer s n ≡ listHas count
-  list-listed n e l = admits n e ∙ ap (λ (b : Bool). pick b (listRefused 9) (listHas count)) (le-ltb n (3 * count) l)
+  pub list-listed : (n : ℕ) → IsAdmitted s → 4 * count ≤ n → listAnswer s n ≡ listHas count
+  list-listed n e l = admits n e ∙ ap (λ (b : Bool). pick b (listRefused 9) (listHas count)) (le-ltb n (4 * count) l)
 
   module _ (o : List ℕ) where
-    buffer-is : (a : ListReply) → listAnswer s (length o) ≡ a → listBuffer s o ≡ pick (eqb (a .number) 0) (laid o 0 (offences (tree s))) o
+    buffer-is : (a : ListReply) → listAnswer s (length o) ≡ a → listBuffer s o ≡ pick (eqb (a .number) 0) (whole o) o
     unfolding listBuffer
-    buffer-is a q = ap (λ (b : ListReply). pick (eqb (b .number) 0) (laid o 0 (offences (tree s))) o) q
+    buffer-is a q = ap (λ (b : ListReply). pick (eqb (b .number) 0) (whole o) o) q
 
     pub buffer-refused : IsRefused s → listBuffer s o ≡ o
-    buffer-refused r = buffer-is _ (list-refused (length o) r) ∙ ap (λ (b : Bool). pick b (laid o 0 (offences (tree s))) o) (ne-eqb (refusal s) 0 r)
+    buffer-refused r = buffer-is _ (list-refused (length o) r) ∙ ap (λ (b : Bool). pick b (whole o) o) (ne-eqb (refusal s) 0 r)
 
-    pub buffer-short : IsAdmitted s → length o < 3 * count → listBuffer s o ≡ o
+    pub buffer-short : IsAdmitted s → length o < 4 * count → listBuffer s o ≡ o
     buffer-short e l = buffer-is _ (list-short (length o) e l)
 
-    pub buffer-listed : IsAdmitted s → 3 * count ≤ length o → listBuffer s o ≡ laid o 0 (offences (tree s))
+    pub buffer-listed : IsAdmitted s → 4 * count ≤ length o → listBuffer s o ≡ whole o
     buffer-listed e l = buffer-is _ (list-listed (length o) e l)
 
     -- the length is unchanged, and words past the last record keep their values, whatever the answer
-    buffer-cases : (P : List ℕ → Type 0) → P o → P (laid o 0 (offences (tree s))) → P (listBuffer s o)
+    buffer-cases : (P : List ℕ → Type 0) → P o → P (whole o) → P (listBuffer s o)
     unfolding listBuffer
     buffer-cases P x y = go (eqb (listAnswer s (length o) .number) 0)
       where
-        go : (b : Bool) → P (pick b (laid o 0 (offences (tree s))) o)
+        go : (b : Bool) → P (pick b (whole o) o)
         go true = y
         go false = x
 
     pub buffer-long : length (listBuffer s o) ≡ length o
-    buffer-long = buffer-cases (λ b. length b ≡ length o) refl (laid-long o (offences (tree s)))
+    buffer-long = buffer-cases (λ b. length b ≡ length o) refl (laid-long (entryOf (tree s)) o (offences (tree s)))
 
   -- words past the last record keep their values
-  pub buffer-kept : (o : List ℕ) (i : ℕ) → 3 * listAnswer s (length o) .records ≤ i → getD (listBuffer s o) i 0 ≡ getD o i 0
+  pub buffer-kept : (o : List ℕ) (i : ℕ) → 4 * listAnswer s (length o) .records ≤ i → getD (listBuffer s o) i 0 ≡ getD o i 0
   buffer-kept o i h = ⊎-elim admitted (λ r. ap (λ (b : List ℕ). getD b i 0) (buffer-refused o r)) (decide s)
     where
       admitted : IsAdmitted s → getD (listBuffer s o) i 0 ≡ getD o i 0
-      admitted e = go (ltb (length o) (3 * count)) refl
+      admitted e = go (ltb (length o) (4 * count)) refl
         where
-          go : (b : Bool) → ltb (length o) (3 * count) ≡ b → getD (listBuffer s o) i 0 ≡ getD o i 0
+          go : (b : Bool) → ltb (length o) (4 * count) ≡ b → getD (listBuffer s o) i 0 ≡ getD o i 0
           go true q = ap (λ (b : List ℕ). getD b i 0) (buffer-short o e (ltb-true _ _ q))
           go false q =
-              let l = ltb-false (length o) (3 * count) q in
+              let l = ltb-false (length o) (4 * count) q in
               let k : listAnswer s (length o) .records ≡ count = ap (λ (a : ListReply). a .records) (list-listed (length o) e l) in
-              ap (λ (b : List ℕ). getD b i 0) (buffer-listed o e l) ∙ laid-kept o (offences (tree s)) i (omega arith)
+              ap (λ (b : List ℕ). getD b i 0) (buffer-listed o e l) ∙ laid-kept (entryOf (tree s)) o (offences (tree s)) i (omega arith)
 
 -- A pass's part of the list
 

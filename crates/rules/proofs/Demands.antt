@@ -17,7 +17,7 @@ use Rattle.rules.specs.Resolve.{resolve}
 use Rattle.rules.specs.Access.{access}
 use Rattle.rules.specs.Linear.{linear}
 use Rattle.rules.specs.Model.{StateName, isState, DeclaredAsset, isDeclaredAsset, KnownAsset, isKnownAsset}
-use Rattle.rules.specs.All.{offences, Before, Ordered, key, FullList}
+use Rattle.rules.specs.All.{offences, Before, Ordered, key, FullList, entryOf}
 use Rattle.rules.specs.Passes.{PassRules, resolving, accessing, linearity, ofPass, None, FirstOffence}
 use Rattle.rules.specs.Answers.{IsRefused, IsAdmitted, Answer, imageRefused, accepted, refusedAt, verdict, passAnswer, NameReply, replyRefused, replied, ask, laid, ListReply, listRefused, listHas, listAnswer, listBuffer, partAnswer, partWords, lentRows, row, verdictRows}
 use Rattle.rules.specs.Report.{rest, listLines, recordLines, reportText}
@@ -29,6 +29,7 @@ use Rattle.rules.proofs.Full.{full, only-full}
 use Rattle.rules.proofs.Passes.{Judges, judges-resolve, judges-access, judges-linear}
 use Rattle.rules.proofs.Numbers.{equal-numbers}
 use Rattle.rules.proofs.Spans.{unjudged}
+use Rattle.rules.proofs.Entries.{entry-is}
 use Rattle.rules.proofs.Answers.{decide, refusal-most, pass-refused, pass-admitted, decided, pass-accepts, pass-refuses, ask-refused, ask-admitted, list-refused, list-short, list-listed, buffer-refused, buffer-short, buffer-listed, part-refused, part-admitted, part-words-refused, part-words-admitted, in-turn}
 
 -- an image that is refused by a number is not admitted
@@ -102,10 +103,10 @@ module _ (p : PassRules) (codes : 9 ≤ p .least) (j : (s : List ℕ) → IsAdmi
   part-zeros o r = (part-refused (p .part) s r, part-words-refused (p .part) s o r)
 
   parts : (o : List ℕ) → IsAdmitted s → (l : List Rec) → FullList (tree s) l
-      → (partAnswer (p .part) s ≡ listHas (length (ofPass p l))) × (partWords (p .part) s o ≡ laid o 0 (ofPass p l))
+      → (partAnswer (p .part) s ≡ listHas (length (ofPass p l))) × (partWords (p .part) s o ≡ laid (entryOf (tree s)) o 0 (ofPass p l))
   parts o e l f = (
     part-admitted (p .part) s e ∙ ap (λ (m : List Rec). listHas (length m)) (sym (part e l f)),
-    part-words-admitted (p .part) s o e ∙ ap (laid o 0) (sym (part e l f)),
+    part-words-admitted (p .part) s o e ∙ ap (laid (entryOf (tree s)) o 0) (sym (part e l f)),
   )
 
 -- what holds of a pass whose codes are no refusals and that judges as it should holds of each
@@ -163,16 +164,16 @@ module _ (s : List ℕ) where
     -- the cases of its answer
     data Cases : Type 0 where
       refused : IsRefused s → n ≡ refusal s → Cases
-      short : IsAdmitted s → length o < 3 * count → n ≡ 9 → Cases
-      roomy : IsAdmitted s → 3 * count ≤ length o → n ≡ 0 → Cases
+      short : IsAdmitted s → length o < 4 * count → n ≡ 9 → Cases
+      roomy : IsAdmitted s → 4 * count ≤ length o → n ≡ 0 → Cases
 
     number-is : {x : ListReply} → listAnswer s (length o) ≡ x → n ≡ x .number
     number-is e = ap (λ (y : ListReply). y .number) e
 
     cases : Cases
-    cases = ⊎-elim (λ e. go e (ltb (length o) (3 * count)) refl) (λ x. refused x (number-is (list-refused s (length o) x))) (decide s)
+    cases = ⊎-elim (λ e. go e (ltb (length o) (4 * count)) refl) (λ x. refused x (number-is (list-refused s (length o) x))) (decide s)
       where
-        go : IsAdmitted s → (b : Bool) → ltb (length o) (3 * count) ≡ b → Cases
+        go : IsAdmitted s → (b : Bool) → ltb (length o) (4 * count) ≡ b → Cases
         go e true q = let l = ltb-true _ _ q in short e l (number-is (list-short s (length o) e l))
         go e false q = let l = ltb-false _ _ q in roomy e l (number-is (list-listed s (length o) e l))
 
@@ -184,7 +185,7 @@ module _ (s : List ℕ) where
         so (short e l z) q = absurd (omega arith)
         so (roomy e l z) q = absurd (omega arith)
 
-    short-is : TooShort s o → length o < 3 * count
+    short-is : TooShort s o → length o < 4 * count
     short-is x = let z = many (x .0) (x .1 .0) (x .1 .1) in let l = x .1 .2 in omega arith
 
     list-nine : (n ≡ 9) ↔ TooShort s o
@@ -195,11 +196,11 @@ module _ (s : List ℕ) where
         so (short e l z) q = (e, (offences (tree s), full s e, l))
         so (roomy e l z) q = absurd (omega arith)
 
-    listed-is : IsAdmitted s → (l : List Rec) → FullList (tree s) l → 3 * length l ≤ length o → (listAnswer s (length o) ≡ listHas (length l)) × (listBuffer s o ≡ laid o 0 l)
+    listed-is : IsAdmitted s → (l : List Rec) → FullList (tree s) l → 4 * length l ≤ length o → (listAnswer s (length o) ≡ listHas (length l)) × (listBuffer s o ≡ laid (entryOf (tree s)) o 0 l)
     listed-is e l f h =
         let z = many e l f in
-        let g : 3 * count ≤ length o = omega arith in
-        (list-listed s (length o) e g ∙ ap listHas (sym z), buffer-listed s o e g ∙ ap (laid o 0) (sym (only-full s e l f)))
+        let g : 4 * count ≤ length o = omega arith in
+        (list-listed s (length o) e g ∙ ap listHas (sym z), buffer-listed s o e g ∙ ap (laid (entryOf (tree s)) o 0) (sym (only-full s e l f)))
 
 -- a record stands before the later ones, so not among them, and not among the earlier ones
 once : (k : Rec → List ℕ) (a b : List Rec) (r : Rec) → Ordered k (a ++ (r ∷ b)) → (List·Memᴰ r a → ⊥) × (List·Memᴰ r b → ⊥)
@@ -228,14 +229,14 @@ module _ (s : List ℕ) where
   unfolding reportText
   text-admitted e = ap (λ (b : Bool). texts b (listAnswer s 32768)) (eq-eqb (refusal s) 0 e)
 
-  text-listed : IsAdmitted s → (l : List Rec) → FullList (tree s) l → 3 * length l ≤ 32768
+  text-listed : IsAdmitted s → (l : List Rec) → FullList (tree s) l → 4 * length l ≤ 32768
       → reportText s ≡ passLines s (bytes "list" ++ (rest (length l ∷ []) ++ recordLines s l))
   text-listed e l f h =
       let z = many s e l f in
       text-admitted e ∙ ap (λ (a : ListReply). passLines s (listLines s a)) (list-listed s 32768 e (omega arith))
       ∙ ap (λ (m : List Rec). passLines s (bytes "list" ++ (rest (length m ∷ []) ++ recordLines s m))) (sym (only-full s e l f))
 
-  text-short : IsAdmitted s → (l : List Rec) → FullList (tree s) l → 32768 < 3 * length l
+  text-short : IsAdmitted s → (l : List Rec) → FullList (tree s) l → 32768 < 4 * length l
       → reportText s ≡ passLines s (bytes "list refused" ++ rest (9 ∷ []))
   text-short e l f h =
       let z = many s e l f in
@@ -295,6 +296,7 @@ demand-3 = record {
   only = λ s e. full-list-unique (tree s);
   once = λ s e a b r f. once (key (tree s)) a b r (f .ordered);
   lists = λ s o. listed-is s o;
+  entries = entry-is;
   accepts = each accepts-list;
   refuses = each refuses-list;
   parts = each parts;

@@ -12,8 +12,8 @@ use Rattle.image.proofs.Every.{both-left, both-right}
 use Rattle.rules.specs.Sweep.{either, has}
 use Rattle.rules.specs.Tree.{Tree, param}
 use Rattle.rules.specs.Vocabulary.{Rec, Below, below, CallIn, calls, Signer, signers}
-use Rattle.rules.specs.All.{key, latest, holder, items}
-use Rattle.rules.specs.Standing.{Flat, parts, Formed}
+use Rattle.rules.specs.All.{key, latest, holder}
+use Rattle.rules.specs.Standing.{Flat, apart, parts, Formed}
 use Rattle.rules.proofs.Reflect.{Tells, tells-has, tells-both, tells-eqb, tells-ltb, tells-either, tells-not, tells-as, narrow}
 use Rattle.rules.proofs.Level.{Level, level-wide, level-keep, level-below}
 
@@ -99,15 +99,15 @@ module _ (t : Tree) (F : Formed t) where
       go true e = absurd (f i j a (record { after = l; inside = ltb-true j (t .end i) e; kind = b .kind }))
       go false e = ltb-false j (t .end i) e
 
-  pub items-follow : {ks : List ℕ} {i j : ℕ} → subset ks items ≡ true → Below t ks (t .root) i → Below t ks (t .root) j → i < j → t .end i ≤ j
-  items-follow e a b l = follows items (F .items-flat) (wider items e a) (wider items e b) l
+  pub items-follow : {ks : List ℕ} {i j : ℕ} → subset ks apart ≡ true → Below t ks (t .root) i → Below t ks (t .root) j → i < j → t .end i ≤ j
+  items-follow e a b l = follows apart (F .items-flat) (wider apart e a) (wider apart e b) l
 
   pub parts-follow : {ks js : List ℕ} {e i j : ℕ} → subset ks parts ≡ true → Below t js (t .root) e → Below t ks e i → Below t ks e j → i < j → t .end i ≤ j
   parts-follow q b x y l = follows parts (F .parts-flat) (wider parts q (deep b x)) (wider parts q (deep b y)) l
 
   -- the node of kind ks that holds p
   module _ (ks : List ℕ) where
-    told : (p i : ℕ) → Tells (both (has (t .kind i) ks) (ltb p (t .end i))) (List·Memᴰ (t .kind i) ks × (p < t .end i))
+    pub told : (p i : ℕ) → Tells (both (has (t .kind i) ks) (ltb p (t .end i))) (List·Memᴰ (t .kind i) ks × (p < t .end i))
     told p i = tells-both (tells-has (t .kind i) ks) (tells-ltb p (t .end i))
 
     holder-is : (x p : ℕ) → Flat t ks → Below t ks (t .root) x → x ≤ p → p < t .end x → holder t ks p ≡ x
@@ -146,11 +146,11 @@ module _ (t : Tree) (F : Formed t) where
         other js ks d (b .kind) (subst (λ (z : ℕ). List·Memᴰ (t .kind z) ks) (sym w) (c .kind)))
 
   -- the item that holds p, and the part
-  pub item-of : {ks : List ℕ} {i : ℕ} (js : List ℕ) (p : ℕ) → subset js items ≡ true → subset ks js ≡ true → Below t ks (t .root) i → i ≤ p → p < t .end i → holder t js p ≡ i
-  item-of = held-by items (F .items-flat)
+  pub item-of : {ks : List ℕ} {i : ℕ} (js : List ℕ) (p : ℕ) → subset js apart ≡ true → subset ks js ≡ true → Below t ks (t .root) i → i ≤ p → p < t .end i → holder t js p ≡ i
+  item-of = held-by apart (F .items-flat)
 
-  pub not-item : {js : List ℕ} {x : ℕ} (ks : List ℕ) (p : ℕ) → subset js items ≡ true → subset ks items ≡ true → disjoint js ks ≡ true → Below t js (t .root) x → x ≤ p → p < t .end x → holder t ks p ≡ 0
-  not-item = held-by-none items (F .items-flat)
+  pub not-item : {js : List ℕ} {x : ℕ} (ks : List ℕ) (p : ℕ) → subset js apart ≡ true → subset ks apart ≡ true → disjoint js ks ≡ true → Below t js (t .root) x → x ≤ p → p < t .end x → holder t ks p ≡ 0
+  not-item = held-by-none apart (F .items-flat)
 
   pub part-of : {ks : List ℕ} {x : ℕ} (js : List ℕ) (p : ℕ) → subset js parts ≡ true → subset ks js ≡ true → Below t ks (t .root) x → x ≤ p → p < t .end x → holder t js p ≡ x
   part-of = held-by parts (F .parts-flat)
@@ -173,7 +173,7 @@ module _ (t : Tree) (F : Formed t) where
       level-below e (t .end e) (λ i. i) (t .end) (let l = longer b in omega arith) h (λ i j x y l. parts-follow q b x y l) (λ i x. let u = x .after in (omega arith, ends-in b x))
 
   pub items-level :
-      {k ks : List ℕ} {f : ℕ → List Rec} → subset ks items ≡ true → ((i : ℕ) → Below t ks (t .root) i → Level (key t) k i (t .end i) (f i))
+      {k ks : List ℕ} {f : ℕ → List Rec} → subset ks apart ≡ true → ((i : ℕ) → Below t ks (t .root) i → Level (key t) k i (t .end i) (f i))
       → Level (key t) k 0 (t .end (t .root)) (below t ks (t .root) f)
   items-level q h =
       level-below 0 (t .end (t .root)) (λ i. i) (t .end) (omega arith) h (λ i j x y l. items-follow q x y l) (λ i x. (omega arith, item-ends x))
@@ -185,7 +185,7 @@ module _ (t : Tree) (F : Formed t) where
 
   -- the Calls of an item
   pub calls-level :
-      {k js : List ℕ} {e : ℕ} {f : ℕ → List Rec} → subset js items ≡ true → Below t js (t .root) e → ((c : ℕ) → CallIn t e c → Level (key t) k c (suc c) (f c))
+      {k js : List ℕ} {e : ℕ} {f : ℕ → List Rec} → subset js apart ≡ true → Below t js (t .root) e → ((c : ℕ) → CallIn t e c → Level (key t) k c (suc c) (f c))
       → Level (key t) k e (t .end e) (calls t e f)
   unfolding calls
   calls-level q b h = parts-level refl b (λ s x. own-level s (longer (deep b x)) (λ c y. h c (s, x, y)))

@@ -12,7 +12,7 @@ use Rattle.rules.specs.Tree.{Tree, genesis, invariant, entry, bodied, pa
 use Rattle.rules.specs.Vocabulary.{Rec, rec, only, Below, below, calls, signers}
 use Rattle.rules.specs.Resolve.{rule20, group20, rule21, group21, rule22, mintCalls, manyAssets, group22, rule23, group23, rule24, rule25, rule26, rule27, rule28, rule29, letRules, entryNames, group24, rule30, rule31, emits, group30, rule32, deployerIn, deployerOf, group32, rule33, rule34, genesisRules, group33, rule35, clauseRule, rule40, entryRules, group35, resolve}
 use Rattle.rules.specs.All.{key, holder, isHeld, items, param-statement, invariant-param}
-use Rattle.rules.specs.Standing.{parts, Formed}
+use Rattle.rules.specs.Standing.{apart, parts, Formed}
 use Rattle.rules.proofs.Reflect.{tells-has, narrow}
 use Rattle.rules.proofs.Resolve.{finds-rule30, finds-rule31}
 use Rattle.rules.proofs.Level.{Level, level-between, level-both, level-append, level-up, level-none, level-only, level-keep, level-below, group, member-below, member-keep, test-only}
@@ -125,7 +125,7 @@ module _ (t : Tree) (F : Formed t) where
       let a = b .after in genesis-emit p (not-item t F entry p refl refl refl b l h) (item-of t F genesis p refl refl b l h) (omega arith)
 
   emits-level :
-      (ks : List ℕ) (d : ℕ) → subset ks items ≡ true → ((i p : ℕ) → Below t ks (t .root) i → i ≤ p → p < t .end i → EmitTurn d p)
+      (ks : List ℕ) (d : ℕ) → subset ks apart ≡ true → ((i p : ℕ) → Below t ks (t .root) i → i ≤ p → p < t .end i → EmitTurn d p)
       → Level (key t) (6 ∷ 0 ∷ []) d (suc d) (emits t ks)
   unfolding emits
   emits-level ks d q g =

@@ -17,7 +17,7 @@ use Rattle.rules.specs.Record.{Rec}
 use Rattle.rules.specs.Resolve.{resolve}
 use Rattle.rules.specs.Access.{access}
 use Rattle.rules.specs.Linear.{linear}
-use Rattle.rules.specs.All.{offences}
+use Rattle.rules.specs.All.{offences, entryOf}
 
 -- An image is refused by a number, or admitted
 
@@ -85,14 +85,14 @@ ask question s w = pick (eqb (refusal s) 0) (replied (question (tree s) w)) (rep
 
 -- The list
 
--- a record is three words: code, place, related
-abbrev pub words : List Rec → List ℕ
-words [] = []
-words (r ∷ l) = r .code ∷ r .place ∷ r .related ∷ words l
+-- a record is four words: code, place, related, and the entry that contains the place, where e gives the entry of each node
+abbrev pub words : (ℕ → ℕ) → List Rec → List ℕ
+words e [] = []
+words e (r ∷ l) = r .code ∷ r .place ∷ r .related ∷ e (r .place) ∷ words e l
 
 -- the buffer o with the records l from the k-th record's place on; what does not fit is not written, all else keeps its value
-abbrev pub laid : List ℕ → ℕ → List Rec → List ℕ
-laid o k l = sets o (3 * k) (words l)
+abbrev pub laid : (ℕ → ℕ) → List ℕ → ℕ → List Rec → List ℕ
+laid e o k l = sets o (4 * k) (words e l)
 
 pub record ListReply : Type 0 where
   pub number : ℕ
@@ -104,17 +104,17 @@ listRefused r = record { number = r; records = 0 }
 abbrev pub listHas : ℕ → ListReply
 listHas k = record { number = 0; records = k }
 
--- 9: its buffer has fewer than 3 words per offence
+-- 9: its buffer has fewer than 4 words per offence
 unfoldable pub listAnswer : List ℕ → ℕ → ListReply
 listAnswer s size =
     let k = length (offences (tree s)) in
     pick (eqb (refusal s) 0)
-    (pick (ltb size (3 * k)) (listRefused 9) (listHas k))
+    (pick (ltb size (4 * k)) (listRefused 9) (listHas k))
     (listRefused (refusal s))
 
 -- the buffer afterwards: as it was on refusal, else with the records; words past the last record keep their values
 unfoldable pub listBuffer : List ℕ → List ℕ → List ℕ
-listBuffer s o = pick (eqb (listAnswer s (length o) .number) 0) (laid o 0 (offences (tree s))) o
+listBuffer s o = pick (eqb (listAnswer s (length o) .number) 0) (laid (entryOf (tree s)) o 0 (offences (tree s))) o
 
 -- A pass's part of the list. Each pass writes its records into the rest of the buffer from where the last one stopped: of an admitted
 -- image, how many it counts, and what it makes of that rest
@@ -123,7 +123,7 @@ abbrev pub partCount : (Tree → List Rec) → List ℕ → ℕ
 partCount pass s = length (pass (tree s))
 
 abbrev pub partBuffer : (Tree → List Rec) → List ℕ → List ℕ → List ℕ
-partBuffer pass s o = laid o 0 (pass (tree s))
+partBuffer pass s o = laid (entryOf (tree s)) o 0 (pass (tree s))
 
 -- Called alone it counts all its records and has no refusal 9: those that fit are written from the buffer's start.
 unfoldable pub partAnswer : (Tree → List Rec) → List ℕ → ListReply
@@ -134,13 +134,13 @@ partWords pass s o = pick (eqb (refusal s) 0) (partBuffer pass s o) o
 
 -- the buffer o with what f makes of the rest of it after k records
 abbrev pub onRest : ℕ → (List ℕ → List ℕ) → List ℕ → List ℕ
-onRest k f o = take (3 * k) o ++ f (drop (3 * k) o)
+onRest k f o = take (4 * k) o ++ f (drop (4 * k) o)
 
 -- so the three parts, one after the other, are the whole list
 abbrev pub InTurn : Type 0
 InTurn =
     (s o : List ℕ)
-    → laid o 0 (offences (tree s))
+    → laid (entryOf (tree s)) o 0 (offences (tree s))
     ≡ onRest (partCount resolve s + partCount access s) (partBuffer linear s)
     (onRest (partCount resolve s) (partBuffer access s) (partBuffer resolve s o))
 

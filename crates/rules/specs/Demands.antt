@@ -24,7 +24,7 @@ use Rattle.rules.specs.Tree.{Tree, tree}
 use Rattle.rules.specs.Spelling.{bytes}
 use Rattle.rules.specs.Record.{Rec}
 use Rattle.rules.specs.Model.{StateName, isState, DeclaredAsset, isDeclaredAsset, KnownAsset, isKnownAsset}
-use Rattle.rules.specs.All.{FullList}
+use Rattle.rules.specs.All.{FullList, entryOf, InEntry}
 use Rattle.rules.specs.Passes.{PassRules, resolving, accessing, linearity, ofPass, None, FirstOffence}
 use Rattle.rules.specs.Names.{EqualNumbers}
 use Rattle.rules.specs.Spans.{Unjudged}
@@ -42,9 +42,9 @@ EachQuestion P = P isState StateName × P isDeclaredAsset DeclaredAsset × P isK
 abbrev pub Number : ℕ → Type 0
 Number r = (1 ≤ r) × (r ≤ 8)
 
--- the image is admitted, and the buffer has fewer than three words for each offence
+-- the image is admitted, and the buffer has fewer than four words for each offence
 abbrev pub TooShort : List ℕ → List ℕ → Type 0
-TooShort s o = IsAdmitted s × ((l : List Rec) × FullList (tree s) l × (length o < 3 * length l))
+TooShort s o = IsAdmitted s × ((l : List Rec) × FullList (tree s) l × (length o < 4 * length l))
 
 -- the report's lines of the passes, and what follows them
 abbrev pub passLines : List ℕ → List ℕ → List ℕ
@@ -94,11 +94,11 @@ pub record Demand-2 : Type 1 where
   pub lent : {R : Type 0} (blank : R) (s : List ℕ) (z : List R) → IsAdmitted s → lentRows blank s z ≡ replicate maxRows blank
 
 -- Demand 3. An admitted image has a full list (specs/All: each offence of the passes, and nothing else, in the stated order), only
--- one, and each offence stands in it once. Given room, the list answers how many there are and lays them from the buffer's start;
--- words past the last record keep their values. The list has none of a pass's offences exactly when the pass accepts; else the first
--- of them is the code and place that the pass refuses with. A pass's part of the list counts all offences of the pass, and lays them
--- from the buffer's start as far as it goes; the three parts, one after the other, are the list. The report has a line for each pass
--- and one for each offence, or says that the list has no room.
+-- one, and each offence stands in it once. Given room, the list answers how many there are and lays them from the buffer's start, each
+-- with the entry that contains its place, or 0; words past the last record keep their values. The list has none of a pass's offences
+-- exactly when the pass accepts; else the first of them is the code and place that the pass refuses with. A pass's part of the list
+-- counts all offences of the pass, and lays them from the buffer's start as far as it goes; the three parts, one after the other, are
+-- the list. The report has a line for each pass and one for each offence, or says that the list has no room.
 pub record Demand-3 : Type 0 where
   pub full : (s : List ℕ) → IsAdmitted s → (l : List Rec) × FullList (tree s) l
   pub only : (s : List ℕ) → IsAdmitted s → (l m : List Rec) → FullList (tree s) l → FullList (tree s) m → l ≡ m
@@ -106,8 +106,9 @@ pub record Demand-3 : Type 0 where
       (s : List ℕ) → IsAdmitted s → (a b : List Rec) (r : Rec) → FullList (tree s) (a ++ (r ∷ b))
       → (List·Memᴰ r a → ⊥) × (List·Memᴰ r b → ⊥)
   pub lists :
-      (s o : List ℕ) → IsAdmitted s → (l : List Rec) → FullList (tree s) l → 3 * length l ≤ length o
-      → (listAnswer s (length o) ≡ listHas (length l)) × (listBuffer s o ≡ laid o 0 l)
+      (s o : List ℕ) → IsAdmitted s → (l : List Rec) → FullList (tree s) l → 4 * length l ≤ length o
+      → (listAnswer s (length o) ≡ listHas (length l)) × (listBuffer s o ≡ laid (entryOf (tree s)) o 0 l)
+  pub entries : (s : List ℕ) → IsAdmitted s → (p e : ℕ) → (entryOf (tree s) p ≡ e) ↔ InEntry (tree s) p e
   pub accepts :
       EachPass (λ p. (s : List ℕ) → IsAdmitted s → (l : List Rec) → FullList (tree s) l
       → (passAnswer (p .part) s ≡ accepted) ↔ (ofPass p l ≡ []))
@@ -116,11 +117,11 @@ pub record Demand-3 : Type 0 where
       → (r : Rec) (m : List Rec) → ofPass p l ≡ r ∷ m → passAnswer (p .part) s ≡ refusedAt s (r .code) (r .place))
   pub parts :
       EachPass (λ p. (s o : List ℕ) → IsAdmitted s → (l : List Rec) → FullList (tree s) l
-      → (partAnswer (p .part) s ≡ listHas (length (ofPass p l))) × (partWords (p .part) s o ≡ laid o 0 (ofPass p l)))
+      → (partAnswer (p .part) s ≡ listHas (length (ofPass p l))) × (partWords (p .part) s o ≡ laid (entryOf (tree s)) o 0 (ofPass p l)))
   pub in-turn : InTurn
   pub text :
-      (s : List ℕ) → IsAdmitted s → (l : List Rec) → FullList (tree s) l → 3 * length l ≤ reportWords
+      (s : List ℕ) → IsAdmitted s → (l : List Rec) → FullList (tree s) l → 4 * length l ≤ reportWords
       → reportText s ≡ passLines s (bytes "list" ++ (rest (length l ∷ []) ++ recordLines s l))
   pub text-short :
-      (s : List ℕ) → IsAdmitted s → (l : List Rec) → FullList (tree s) l → reportWords < 3 * length l
+      (s : List ℕ) → IsAdmitted s → (l : List Rec) → FullList (tree s) l → reportWords < 4 * length l
       → reportText s ≡ passLines s (bytes "list refused" ++ rest (9 ∷ []))

@@ -22,7 +22,7 @@ use Rattle.rules.specs.Model.{isState, isStateTyped, isDeclaredAsset, in
 use Rattle.rules.specs.Resolve.{rule20, group20, rule21, group21, manyAssets, rule22, mintCalls, group22, comma, typeText, signature, firstSigned, rule23, group23, rule24, rule25, rule26, rule27, rule28, rule29, letRules, entryNames, group24, rule30, lastEvent, unlike, rule31, emits, group30, rule32, deployerIn, deployerOf, group32, rule33, rule34, genesisRules, group33, rule35, clauseRule, isAddress, rule40, entryRules, group35, resolve}
 use Rattle.rules.specs.Access.{rule50, group50, isUnwritten, isWrite, assignRule, callRule, statementRules, group51, access}
 use Rattle.rules.specs.Linear.{produces, isRow, placeOf, isAlias, rule60, isBurned, isEarlier, isLater, marks, isCounted, uses, judged, rowRule, linearEntry, linear}
-use Rattle.rules.specs.All.{offences}
+use Rattle.rules.specs.All.{offences, latest, holder}
 use Rattle.rules.specs.Answers.{Answer, passAnswer, NameReply, ask, ListReply, listRefused, listHas, listAnswer, listBuffer}
 
 -- the refusal, the answers of the three passes, and the full list (none where the image is refused)
@@ -54,8 +54,8 @@ pub record Answered (s : List ℕ) (v : Outcome) : Type 0 where
   pub linearity : passAnswer linear s ≡ v .linearity
   -- of an admitted image the full list, and what it answers for a buffer of so many words
   pub list : v .refused ≡ 0 → offences (tree s) ≡ v .list
-  pub room : v .refused ≡ 0 → (size : ℕ) → 3 * length (v .list) ≤ size → listAnswer s size ≡ listHas (length (v .list))
-  pub short : v .refused ≡ 0 → (size : ℕ) → size < 3 * length (v .list) → listAnswer s size ≡ listRefused 9
+  pub room : v .refused ≡ 0 → (size : ℕ) → 4 * length (v .list) ≤ size → listAnswer s size ≡ listHas (length (v .list))
+  pub short : v .refused ≡ 0 → (size : ℕ) → size < 4 * length (v .list) → listAnswer s size ≡ listRefused 9
   -- of a refused one
   pub unlisted : (v .refused ≡ 0 → ⊥) → (size : ℕ) → listAnswer s size ≡ listRefused (v .refused)
 
@@ -67,8 +67,8 @@ answers {s} {v} e = record {
   accessing = ap (λ (o : Outcome). o .accessing) e;
   linearity = ap (λ (o : Outcome). o .linearity) e;
   list = list;
-  room = λ z size h. lists z size ∙ ap (λ (b : Bool). pick b (listRefused 9) (listHas k)) (le-ltb size (3 * k) h);
-  short = λ z size h. lists z size ∙ ap (λ (b : Bool). pick b (listRefused 9) (listHas k)) (lt-ltb size (3 * k) h);
+  room = λ z size h. lists z size ∙ ap (λ (b : Bool). pick b (listRefused 9) (listHas k)) (le-ltb size (4 * k) h);
+  short = λ z size h. lists z size ∙ ap (λ (b : Bool). pick b (listRefused 9) (listHas k)) (lt-ltb size (4 * k) h);
   unlisted = λ z size. ap (λ (m : ℕ). pick (eqb m 0) (given size (offences (tree s))) (listRefused m)) n ∙ ap (λ (b : Bool). pick b (given size (offences (tree s))) (listRefused (v .refused))) (ne-eqb (v .refused) 0 z);
 }
   where
@@ -80,7 +80,7 @@ answers {s} {v} e = record {
 
     -- what the list l answers
     given : ℕ → List Rec → ListReply
-    given size l = pick (ltb size (3 * length l)) (listRefused 9) (listHas (length l))
+    given size l = pick (ltb size (4 * length l)) (listRefused 9) (listHas (length l))
 
     list : v .refused ≡ 0 → offences (tree s) ≡ v .list
     list z = ap (λ (m : ℕ). pick (eqb m 0) (offences (tree s)) []) (sym (n ∙ z)) ∙ ap (λ (o : Outcome). o .list) e
@@ -104,7 +104,7 @@ pub record Filled : Type 0 where
   pub buffer : List ℕ
 
 unfoldable pub filled : List ℕ → List ℕ → Filled
-unfolding outcome listAnswer listBuffer
+unfolding outcome latest holder listAnswer listBuffer
 filled s o = record { answer = listAnswer s (length o); buffer = listBuffer s o }
 
 -- 23's text of entry e

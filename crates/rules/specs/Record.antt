@@ -1,4 +1,4 @@
--- List record of document 01: three words, code, place, related.
+-- List record of document 01: code, place, related. The entry that contains the place follows from these (specs/Answers, `words`).
 use Prim.Native.Nat.{ℕ}
 
 pub record Rec : Type 0 where

@@ -1,5 +1,6 @@
 -- The report of document 01 as bytes: `image N` alone on refusal N; otherwise per pass a line (name, code, place, two span words), `list`
--- and the count (or `list refused 9`), per record a line: code, place, related, two span words. The list buffer has 32,768 words.
+-- and the count (or `list refused 9`), per record a line: code, place, related, entry, two span words. The list buffer has 32,768
+-- words.
 use Prim.Native.Nat.{ℕ, zero, suc, _+_, _/_, _%_}
 use mathlib.Core.List.{List, [], _∷_, _++_}
 use lib.Dec.{ltb, eqb}
@@ -11,7 +12,7 @@ use Rattle.rules.specs.Record.{Rec}
 use Rattle.rules.specs.Resolve.{resolve}
 use Rattle.rules.specs.Access.{access}
 use Rattle.rules.specs.Linear.{linear}
-use Rattle.rules.specs.All.{offences}
+use Rattle.rules.specs.All.{offences, entryOf}
 use Rattle.rules.specs.Answers.{Answer, passAnswer, spanFrom, spanTo, ListReply, listAnswer}
 
 -- so many words has the list's buffer
@@ -37,7 +38,9 @@ passLine name a = name ++ rest (a .number ∷ a .place ∷ a .from ∷ a .to ∷
 
 -- the line of a record
 abbrev pub recordLine : List ℕ → Rec → List ℕ
-recordLine s r = decimal (r .code) ++ rest (r .place ∷ r .related ∷ spanFrom s (r .place) ∷ spanTo s (r .place) ∷ [])
+recordLine s r =
+    decimal (r .code)
+    ++ rest (r .place ∷ r .related ∷ entryOf (tree s) (r .place) ∷ spanFrom s (r .place) ∷ spanTo s (r .place) ∷ [])
 
 unfoldable pub recordLines : List ℕ → List Rec → List ℕ
 recordLines s [] = []

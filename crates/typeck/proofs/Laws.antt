@@ -12,7 +12,7 @@ use Rattle.image.specs.declared.Admission.the-variants as admission
 use Rattle.image.proofs.Verdict.{refused-is}
 use Rattle.rules.specs.Tree.{Tree, tree}
 use Rattle.rules.specs.Vocabulary.{Rec}
-use Rattle.rules.specs.All.{offences}
+use Rattle.rules.specs.All.{offences, entryOf}
 use Rattle.rules.specs.Answers as rules
 use Rattle.rules.proofs.Answers.{list-refused, list-short, list-listed, buffer-refused, buffer-short, buffer-listed}
 use Rattle.records.specs.Records.{words, Laid}
@@ -58,11 +58,11 @@ module _ (s o : List ℕ) where
       let d = refused-number s k e in
       (stands-refused k (λ z. n (sym d ∙ z)) (list-refused s (length o) n ∙ ap rules.listRefused (sym d)), sym (buffer-refused s o n))
 
-  pub all-short : refusal s ≡ 0 → length o < 3 * length (offences (tree s)) → ListedAll s o (listed.Refused 9) o
+  pub all-short : refusal s ≡ 0 → length o < 4 * length (offences (tree s)) → ListedAll s o (listed.Refused 9) o
   all-short e h = (stands-refused 9 (λ z. omega arith) (list-short s (length o) e h), sym (buffer-short s o e h))
 
-  pub all-listed : {o′ : List ℕ} {k : ℕ} → refusal s ≡ 0 → 3 * length (offences (tree s)) ≤ length o
-      → Laid o 0 (offences (tree s)) o′ k → ListedAll s o (listed.Records k) o′
+  pub all-listed : {o′ : List ℕ} {k : ℕ} → refusal s ≡ 0 → 4 * length (offences (tree s)) ≤ length o
+      → Laid (entryOf (tree s)) o 0 (offences (tree s)) o′ k → ListedAll s o (listed.Records k) o′
   all-listed {o′} {k} e h L =
       let c : length (offences (tree s)) ≡ k = (let n = L .count in omega arith) in
       (stands-records k (list-listed s (length o) e h ∙ ap rules.listHas c), L .words ∙ sym (buffer-listed s o e h))
@@ -76,7 +76,7 @@ module _ (s o : List ℕ) where
         let f = ne-eqb (refusal s) 0 n in
         (stands-refused k (λ z. n (sym d ∙ z)) (rw f (ap rules.listRefused (sym d))), rw f)
 
-    pub part-listed : {o′ : List ℕ} {k : ℕ} → refusal s ≡ 0 → Laid o 0 (pass (tree s)) o′ k → ListedPart pass s o (listed.Records k) o′
+    pub part-listed : {o′ : List ℕ} {k : ℕ} → refusal s ≡ 0 → Laid (entryOf (tree s)) o 0 (pass (tree s)) o′ k → ListedPart pass s o (listed.Records k) o′
     unfolding partAnswer partWords
     part-listed {o′} {k} e L =
         let c : length (pass (tree s)) ≡ k = (let n = L .count in omega arith) in

@@ -82,7 +82,7 @@ pub fn verdicts(image: &[u8]) -> Answers
     }
 }
 
-// The full list: the records of all passes, or refusal 9 where the buffer has fewer than 3 words for each.
+// The full list: the records of all passes, or refusal 9 where the buffer has fewer than 4 words for each.
 pub fn list(image: &[u8], words: &mut [u16]) -> Listed
     ensures { λ r. ⌜ ListedAll (old image) (old words) r (new words) ⌝ }
 {
@@ -90,7 +90,7 @@ pub fn list(image: &[u8], words: &mut [u16]) -> Listed
         Admission::Refused(r) => Listed::Refused(r),
         Admission::Admitted(head) => {
             let size = words.len();
-            let asked = 3 * passes::count_all(image, head);
+            let asked = 4 * passes::count_all(image, head);
             if size < asked {
                 return Listed::Refused(9);
             }

@@ -6,10 +6,11 @@ use crate::mismatch::{Mismatch, same};
 use generate::patterns::{Pattern, p2, patterns, reported};
 use generate::{Limit, limits};
 use quanta_typeck::model::Model;
-use reference::{Pass, Record};
+use reference::{Judged, Pass, Record};
 
-/// Document 01's own example of a report, P2's.
-const P2_REPORT: &str = "resolve 0 0 0 0\naccess 0 0 0 0\nlinear 61 5 50 51\nlist 1\n61 5 0 50 51\n";
+/// Document 01's own example of a report, P2's, with request E8's "P2's record line becomes
+/// `61 5 0 2 50 51`".
+const P2_REPORT: &str = "resolve 0 0 0 0\naccess 0 0 0 0\nlinear 61 5 50 51\nlist 1\n61 5 0 2 50 51\n";
 
 /// Runs all; the text is what to print, and an `Err` is a failure.
 pub fn run() -> Result<String, String> {
@@ -47,16 +48,28 @@ fn pattern_holds(pattern: &Pattern) -> Result<(), Mismatch> {
         Ok(judged) => judged,
         Err(refusal) => return same("the refusal", 0, refusal),
     };
-    let listed: Vec<[u16; 3]> = judged.list().iter().map(Record::words).collect();
+    let listed: Vec<[u16; 4]> = judged.list().iter().map(Record::words).collect();
     same("the reference's list", &expected, &listed)?;
+    room_holds(&judged, &expected)?;
     let contract = judge::contract(&image)?;
     let model = Model::build(&contract);
     for pass in Pass::ALL {
         let first = expected.iter().find(|[code, ..]| pass_of(*code) == pass);
-        let verdict = first.map_or((0, 0), |[code, place, _]| (*code, *place));
+        let verdict = first.map_or((0, 0), |[code, place, ..]| (*code, *place));
         same(&format!("the Rust's {}", pass.word()), verdict, judge::verdict(pass, &model))?;
     }
     Ok(())
+}
+
+/// Four words for each record are enough, and one word less is not.
+fn room_holds(judged: &Judged, expected: &[[u16; 4]]) -> Result<(), Mismatch> {
+    let mut words = vec![0; 4 * expected.len()];
+    same("the count in exact room", Ok(expected.len()), judged.list_into(&mut words))?;
+    same("the words in exact room", expected.concat(), words.clone())?;
+    match words.split_last_mut() {
+        Some((_, short)) => same("the count in one word less", Err(9), judged.list_into(short)),
+        None => Ok(()),
+    }
 }
 
 /// The pass that a code is of: 20 to 40, 50 and 51, 60 to 62.

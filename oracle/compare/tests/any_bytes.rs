@@ -2,7 +2,8 @@
 
 use compare::images::{Range, all_classes, names_to_ask};
 use generate::Rng;
-use reference::{Pass, Question, judge, list, question, refusal, report, verdict};
+use reference::tree::Tree;
+use reference::{Pass, Question, RECORD_WORDS, judge, kind, list, question, refusal, report, verdict};
 
 /// Asks everything there is to ask.
 fn ask_all(image: &[u8], rng: &mut Rng) {
@@ -19,11 +20,15 @@ fn ask_all(image: &[u8], rng: &mut Rng) {
     };
     assert_eq!(refused, 0);
     let records = judged.list();
-    if words.len() < 3 * records.len() {
+    let written = RECORD_WORDS * records.len();
+    if words.len() < written {
         assert_eq!((listed, &words), (Err(9), &before));
     } else {
         assert_eq!(listed, Ok(records.len()));
-        assert_eq!(words[3 * records.len()..], before[3 * records.len()..]);
+        assert_eq!(words[written..], before[written..]);
+    }
+    for record in records {
+        assert_eq!(usize::from(record.entry), entry_above(&judged.tree, record.place.into()), "{record:?}");
     }
     for pass in Pass::ALL {
         let code = verdict(pass, image).expect("admitted").code;
@@ -34,6 +39,12 @@ fn ask_all(image: &[u8], rng: &mut Rng) {
             assert!(question(asked, image, &name).is_ok());
         }
     }
+}
+
+/// Request E8 by the items, one of which every place of an offence is in: the first that ends behind it.
+fn entry_above(tree: &Tree, place: usize) -> usize {
+    let item = tree.children(0).find(|item| place < tree.end(*item)).expect("an item");
+    if tree.kind(item) == kind::ENTRY { item } else { 0 }
 }
 
 #[test]

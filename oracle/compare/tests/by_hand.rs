@@ -9,7 +9,7 @@ use generate::patterns::{Pattern, patterns};
 use quanta_typeck::conserve;
 use quanta_typeck::model::Model;
 use quanta_typeck::signature::lend;
-use reference::{Pass, kind};
+use reference::{Judged, Pass, kind};
 
 #[test]
 fn patterns_and_limits_hold() {
@@ -31,7 +31,7 @@ fn twice_in_an_item(pattern: &Pattern, code: u16) -> bool {
     let list = pattern.list();
     tree.children(0).any(|item| {
         let within = |place: u16| (item..tree.end(item)).contains(&usize::from(place));
-        list.iter().filter(|[of, place, _]| *of == code && within(*place)).count() > 1
+        list.iter().filter(|[of, place, ..]| *of == code && within(*place)).count() > 1
     })
 }
 
@@ -50,6 +50,33 @@ fn the_rust_agrees_and_every_code_is_reached() {
     if let Err(text) = compare::rust::run(range) {
         panic!("{text}");
     }
+}
+
+/// Wrong readings of request E8 show on generated images too.
+#[test]
+fn generated_places_tell_entries_apart() {
+    let mut shown = [0; 4];
+    for index in 0..2_000 {
+        let image = compare::images::admitted_image(9, index);
+        let shows = entry_words_shown(&reference::judge(&image).expect("admitted"));
+        shown.iter_mut().zip(shows).for_each(|(images, shows)| *images += usize::from(shows));
+    }
+    assert!(shown.iter().all(|images| *images >= 40), "{shown:?}");
+}
+
+/// Whether an offence stands in a Genesis or an Invariant, outside entries and behind one, at an entry's
+/// own Name, and in an entry that is not the first.
+fn entry_words_shown(judged: &Judged) -> [bool; 4] {
+    let (tree, entries, list) = (&judged.tree, judged.tree.entries(), judged.list());
+    let shows = |is: &dyn Fn(usize, usize) -> bool| list.iter().any(|r| is(r.place.into(), r.entry.into()));
+    let others = [kind::GENESIS, kind::INVARIANT].map(|kind| tree.items(kind)).concat();
+    let within = |item: usize, place| (item..tree.end(item)).contains(&place);
+    [
+        shows(&|place, _| others.iter().any(|item| within(*item, place))),
+        shows(&|place, entry| entry == 0 && entries.iter().any(|e| *e < place)),
+        shows(&|place, entry| entry != 0 && place == tree.name(entry)),
+        shows(&|_, entry| entry != 0 && entries.first() != Some(&entry)),
+    ]
 }
 
 /// A comparison that passes over refused images would pass over these.

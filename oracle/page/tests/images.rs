@@ -3,12 +3,18 @@
 
 use generate::patterns::patterns;
 use generate::{Rng, admitted, damaged, limits};
-use isonkaypu::{ImageRefusal, Offence, Pass, Report, check, check_image};
+use isonkaypu::{ImageRefusal, Offence, Pass, Place, Report, check, check_image};
 use reference::{Question, Record};
 
 fn record(offence: &Offence) -> Record {
-    let related = offence.related.map_or(0, |place| place.node);
-    Record { code: offence.code, place: offence.place.node as u16, related: related as u16 }
+    let number = |place: Option<Place>| place.map_or(0, |place| place.node) as u16;
+    let entry = offence.entry.as_ref().map(|entry| entry.place);
+    Record {
+        code: offence.code,
+        place: offence.place.node as u16,
+        related: number(offence.related),
+        entry: number(entry),
+    }
 }
 
 fn records(report: &Report) -> Vec<Record> {
@@ -45,7 +51,7 @@ fn every_pattern_has_the_list_that_the_page_gives_it() {
     for pattern in patterns() {
         let image = pattern.tree.image();
         let report = check_image(&image).expect("admitted");
-        let words: Vec<[u16; 3]> = records(&report).iter().map(Record::words).collect();
+        let words: Vec<[u16; 4]> = records(&report).iter().map(Record::words).collect();
         assert_eq!(words, pattern.list(), "{}", pattern.name);
         assert_eq!(report.accepted(), pattern.list().is_empty(), "{}", pattern.name);
         hold(&image);

@@ -101,8 +101,8 @@ in `oracle/`: the images are document 01's patterns, its limits as far as they a
 generated contracts, admitted and damaged, in which each code and each refusal comes several times.
 The answers are those of `oracle/reference`, the plain reading of documents 01 and 02; for every admitted
 image the published Rust was run too, and gave the same code and place for each pass. The list, the
-related words and the refusals are the reference's alone, since the Rust stops at its first error
-and knows no image. The same command writes the same bytes again.
+related words, the entries and the refusals are the reference's alone, since the Rust stops at its
+first error and knows no image. The same command writes the same bytes again.
 
 `answers.bin` is a link to `crates/replay/stdin`, since `rt` follows no link there: the program
 `replay` reads it on every `rt check` and must find that nothing differs. How it is read and compared
@@ -123,7 +123,7 @@ Numbers are little-endian. The file is read from front to back:
 | refusal, 0 where it is admitted | u8 |
 | for resolve, access, linear: code, place, two span words | u16, u16, u32, u32 |
 | number of records of the full list | u32 |
-| for each record: code, place, related | u16, u16, u16 |
+| for each record: code, place, related, entry | u16, u16, u16, u16 |
 | number of names asked about | u8 |
 | for each name: its length | u8 |
 | its bytes | as many |

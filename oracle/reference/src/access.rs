@@ -2,14 +2,14 @@
 
 use crate::kind::*;
 use crate::model::Model;
-use crate::record::{Records, at};
+use crate::offence::{Offences, at};
 use crate::tree::Tree;
 
 /// "Field `merge`, `split`, `credit`, `debit`, `insert`, `remove`, `set`"
 const WRITING: [&[u8]; 7] = [b"merge", b"split", b"credit", b"debit", b"insert", b"remove", b"set"];
 
-pub fn access(tree: &Tree, model: &Model) -> Records {
-    let mut out = Records::new();
+pub fn access(tree: &Tree, model: &Model) -> Offences {
+    let mut out = Offences::new();
     for invariant in tree.items(INVARIANT) {
         invariant_idents(tree, model, invariant, &mut out);
     }
@@ -23,7 +23,7 @@ pub fn access(tree: &Tree, model: &Model) -> Records {
 }
 
 /// 50: Invariant Idents that are no state name.
-fn invariant_idents(tree: &Tree, model: &Model, invariant: usize, out: &mut Records) {
+fn invariant_idents(tree: &Tree, model: &Model, invariant: usize, out: &mut Offences) {
     let idents = tree.within(invariant, IDENT);
     let not_state = idents.filter(|i| !model.is_state(tree.text(*i)));
     out.extend(not_state.map(|i| at(50, i)));
@@ -38,7 +38,7 @@ fn declared_writes<'a>(tree: &Tree<'a>, entry: usize) -> Vec<&'a [u8]> {
 
 /// 51: "a state name written that no Writes clause of the entry has: the root of an Assign target
 /// (Assign), then the base root of each Call whose callee is Field … (Call)".
-fn undeclared_writes(tree: &Tree, model: &Model, declared: &[&[u8]], statement: usize, out: &mut Records) {
+fn undeclared_writes(tree: &Tree, model: &Model, declared: &[&[u8]], statement: usize, out: &mut Offences) {
     let undeclared = |root: Option<usize>| {
         root.map(|r| tree.text(r)).is_some_and(|text| model.is_state(text) && !declared.contains(&text))
     };

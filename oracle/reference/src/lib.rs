@@ -3,9 +3,9 @@
 //! not from the published Rust, so that the two can judge each other.
 //!
 //! `admission` holds refusals 1 to 8, `model` the three questions, `resolve`, `access` and
-//! `linear` the offences (`linear` also what consumes a counted occurrence), `why` what makes a tracked
-//! asset unused or used more than once, `report` the program's text; this file holds what the public
-//! functions answer.
+//! `linear` the offences (`linear` also what consumes a counted occurrence), `record` what the list has of
+//! each, `why` what makes a tracked asset unused or used more than once, `report` the program's text; this
+//! file holds what the public functions answer.
 
 pub mod admission;
 pub mod image;
@@ -14,6 +14,7 @@ pub mod tree;
 mod access;
 mod linear;
 mod model;
+mod offence;
 mod record;
 mod report;
 mod resolve;
@@ -24,7 +25,7 @@ pub use admission::{admit, refusal};
 pub use form::kind;
 pub use linear::{Occurrence, counted_occurrences};
 pub use model::Model;
-pub use record::Record;
+pub use record::{RECORD_WORDS, Record};
 pub use report::report;
 pub use why::{Lot, Reason, lots, why};
 
@@ -98,7 +99,8 @@ pub struct Judged<'a> {
 pub fn judge(image: &[u8]) -> Result<Judged<'_>, u8> {
     let tree = admit(image)?;
     let model = Model::of(&tree);
-    let parts = [resolve::resolve(&tree, &model), access::access(&tree, &model), linear::linear(&tree)];
+    let found = [resolve::resolve(&tree, &model), access::access(&tree, &model), linear::linear(&tree)];
+    let parts = found.map(|part| part.into_iter().map(|offence| Record::of(&tree, offence)).collect());
     Ok(Judged { tree, parts })
 }
 
@@ -122,6 +124,20 @@ impl Judged<'_> {
         Verdict { code: first.code, place: first.place, from, to }
     }
 
+    /// The full list into a lent buffer: the number of records, or 9; "words past the last record keep
+    /// their values", and a refusal changes none.
+    pub fn list_into(&self, words: &mut [u16]) -> Result<usize, u8> {
+        let records = self.list();
+        // request E8: "9 now means fewer than four words per offence"
+        if words.len() < RECORD_WORDS * records.len() {
+            return Err(9);
+        }
+        for (room, word) in words.iter_mut().zip(records.iter().flat_map(Record::words)) {
+            *room = word;
+        }
+        Ok(records.len())
+    }
+
     /// The two span words of a place.
     pub fn spans(&self, place: u16) -> (u32, u32) {
         let node = &self.tree.nodes[place as usize];
@@ -134,16 +150,8 @@ pub fn verdict(pass: Pass, image: &[u8]) -> Result<Verdict, u8> {
     Ok(judge(image)?.verdict(pass))
 }
 
-/// The full list into a lent buffer: the number of records, or a refusal; "words past the last
-/// record keep their values", and a refusal changes none.
+/// The full list of any bytes into a lent buffer: the number of records, or a refusal, which changes no
+/// word.
 pub fn list(image: &[u8], words: &mut [u16]) -> Result<usize, u8> {
-    let records = judge(image)?.list();
-    // 9: full list only: its buffer has fewer than 3 words per offence
-    if words.len() < 3 * records.len() {
-        return Err(9);
-    }
-    for (record, room) in records.iter().zip(words.chunks_mut(3)) {
-        room.copy_from_slice(&record.words());
-    }
-    Ok(records.len())
+    judge(image)?.list_into(words)
 }

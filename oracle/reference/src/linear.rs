@@ -4,7 +4,7 @@
 
 use crate::kind::*;
 use crate::model::asset_inner;
-use crate::record::{Records, at, related};
+use crate::offence::{Offences, at, related};
 use crate::tree::Tree;
 
 /// A tracked asset: its name, the place of its record, and what counts as its use: burn marks, each as
@@ -24,8 +24,8 @@ pub struct Occurrence {
     pub consumer: usize,
 }
 
-pub fn linear(tree: &Tree) -> Records {
-    let mut out = Records::new();
+pub fn linear(tree: &Tree) -> Offences {
+    let mut out = Offences::new();
     for entry in tree.entries() {
         aliases(tree, entry, &mut out);
         uses(&rows(tree, entry), &mut out);
@@ -72,7 +72,7 @@ fn tracked<'a>(tree: &Tree<'a>, entry: usize) -> Vec<Row<'a>> {
 }
 
 /// 60: "a Let whose peeled value is an Ident naming an asset parameter or an earlier tracked Let".
-fn aliases(tree: &Tree, entry: usize, out: &mut Records) {
+fn aliases(tree: &Tree, entry: usize, out: &mut Offences) {
     let params = asset_parameters(tree, entry);
     let mut assets: Vec<&[u8]> = params.iter().map(|p| tree.name_text(*p)).collect();
     for statement in tree.statements(entry) {
@@ -154,7 +154,7 @@ fn counted_arguments(tree: &Tree, call: usize) -> Vec<Occurrence> {
 }
 
 /// "After all 60s, rows in order: 61 when marks plus occurrences are 0, 62 when over 1."
-fn uses(rows: &[Row], out: &mut Records) {
+fn uses(rows: &[Row], out: &mut Offences) {
     for row in rows {
         match row.marks.len() + row.occurrences.len() {
             0 => out.push(at(61, row.place)),

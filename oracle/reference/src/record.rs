@@ -1,44 +1,34 @@
-//! Document 01, "List record: three u16 words: code, place, related."
+//! The list's records: an offence in document 01's words, and by request E8 of document 02, "Which
+//! entry?", the entry that it stands in.
 
+use crate::offence::Offence;
 use crate::tree::Tree;
+
+/// How many words a record has: "code, place, related", and "Each list record gets a fourth word".
+pub const RECORD_WORDS: usize = 4;
 
 #[derive(Clone, Copy, Debug, PartialEq, Eq)]
 pub struct Record {
     pub code: u16,
     pub place: u16,
     pub related: u16,
+    pub entry: u16,
 }
 
 impl Record {
-    pub fn words(&self) -> [u16; 3] {
-        [self.code, self.place, self.related]
+    pub fn of(tree: &Tree, offence: Offence) -> Record {
+        let Offence { code, place, related } = offence;
+        let entry = entry_of(tree, place);
+        Record { code, place: place as u16, related: related as u16, entry: entry as u16 }
+    }
+
+    pub fn words(&self) -> [u16; RECORD_WORDS] {
+        [self.code, self.place, self.related, self.entry]
     }
 }
 
-/// A pass's records, in the order of the list.
-pub type Records = Vec<Record>;
-
-/// A record whose related word is 0.
-pub fn at(code: u16, place: usize) -> Record {
-    related(code, place, 0)
-}
-
-pub fn related(code: u16, place: usize, related: usize) -> Record {
-    Record { code, place: place as u16, related: related as u16 }
-}
-
-/// "the Name or Let of the first earlier same-named declaration": of the declarations, each given
-/// by its place and its text, those that were met before, with the first of that text.
-pub fn met_before<T: PartialEq>(declarations: &[(usize, T)]) -> Vec<(usize, usize)> {
-    let mut out = Vec::new();
-    for (k, (place, text)) in declarations.iter().enumerate() {
-        let first = declarations[..k].iter().find(|(_, earlier)| earlier == text);
-        out.extend(first.map(|(first, _)| (*place, *first)));
-    }
-    out
-}
-
-/// Name nodes as `met_before` takes them.
-pub fn with_texts<'a>(tree: &Tree<'a>, names: &[usize]) -> Vec<(usize, &'a [u8])> {
-    names.iter().map(|n| (*n, tree.text(*n))).collect()
+/// "the Entry node that contains the place, 0 outside entries"
+fn entry_of(tree: &Tree, place: usize) -> usize {
+    let contains = |entry: &usize| (*entry..tree.end(*entry)).contains(&place);
+    tree.entries().into_iter().find(contains).unwrap_or(0)
 }

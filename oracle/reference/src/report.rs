@@ -1,6 +1,6 @@
 //! Document 01, the report program: what it prints for the bytes of its standard input.
 
-use crate::{Judged, LIST_WORDS, Pass, Verdict, judge, list};
+use crate::{Judged, LIST_WORDS, Pass, RECORD_WORDS, Verdict, judge};
 use std::fmt::Write;
 
 /// The whole report, a newline after each line.
@@ -13,7 +13,7 @@ pub fn report(image: &[u8]) -> String {
             for pass in Pass::ALL {
                 pass_line(&mut out, pass, judged.verdict(pass));
             }
-            list_lines(&mut out, image, &judged);
+            list_lines(&mut out, &judged);
         }
     }
     out
@@ -30,16 +30,16 @@ fn pass_line(out: &mut String, pass: Pass, verdict: Verdict) {
 }
 
 /// "`list` and the count (or `list refused 9`), per record a line: code, place, related, two span
-/// words"
-fn list_lines(out: &mut String, image: &[u8], judged: &Judged) {
+/// words", and by request E8 "the report program prints the word after related": the entry
+fn list_lines(out: &mut String, judged: &Judged) {
     let mut words = vec![0; LIST_WORDS];
-    let Ok(count) = list(image, &mut words) else {
+    let Ok(count) = judged.list_into(&mut words) else {
         return line(out, "list refused 9");
     };
     line(out, &format!("list {count}"));
-    for words in words.chunks(3).take(count) {
-        let (code, place, related) = (words[0], words[1], words[2]);
+    for words in words.chunks(RECORD_WORDS).take(count) {
+        let (code, place, related, entry) = (words[0], words[1], words[2], words[3]);
         let (from, to) = judged.spans(place);
-        line(out, &format!("{code} {place} {related} {from} {to}"));
+        line(out, &format!("{code} {place} {related} {entry} {from} {to}"));
     }
 }

@@ -3,7 +3,7 @@
 
 use crate::kind::*;
 use crate::model::Model;
-use crate::record::{Record, Records, at, met_before, related, with_texts};
+use crate::offence::{Offence, Offences, at, met_before, related, with_texts};
 use crate::signature::signature;
 use crate::tree::Tree;
 
@@ -14,8 +14,8 @@ const FUNCTIONS: [&[u8]; 4] = [b"send", b"send_asset", b"mint", b"mint_asset"];
 const METHODS: [&[u8]; 9] =
     [b"get", b"contains", b"split", b"set", b"remove", b"merge", b"insert", b"debit", b"credit"];
 
-pub fn resolve(tree: &Tree, model: &Model) -> Records {
-    let mut out = Records::new();
+pub fn resolve(tree: &Tree, model: &Model) -> Offences {
+    let mut out = Offences::new();
     repeated_fields(tree, model, &mut out);
     repeated_events(tree, &mut out);
     minting_with_several_assets(tree, &mut out);
@@ -40,26 +40,26 @@ pub fn resolve(tree: &Tree, model: &Model) -> Records {
 }
 
 /// 20: field name met before (Name).
-fn repeated_fields(tree: &Tree, model: &Model, out: &mut Records) {
+fn repeated_fields(tree: &Tree, model: &Model, out: &mut Offences) {
     let names: Vec<usize> = model.fields.iter().map(|f| tree.name(*f)).collect();
     out.extend(repeats(20, tree, &names));
 }
 
 /// 21: event name met before (Name).
-fn repeated_events(tree: &Tree, out: &mut Records) {
+fn repeated_events(tree: &Tree, out: &mut Offences) {
     let names: Vec<usize> = tree.items(EVENT).iter().map(|e| tree.name(*e)).collect();
     out.extend(repeats(21, tree, &names));
 }
 
 /// A record for each Name whose text was met before, with the first of that text.
-fn repeats(code: u16, tree: &Tree, names: &[usize]) -> Vec<Record> {
+fn repeats(code: u16, tree: &Tree, names: &[usize]) -> Vec<Offence> {
     let met = met_before(&with_texts(tree, names));
     met.iter().map(|(n, first)| related(code, *n, *first)).collect()
 }
 
 /// 22: with over one Asset item, a Call whose callee is Ident `mint_asset`, in Entry and Genesis
 /// statements, item order.
-fn minting_with_several_assets(tree: &Tree, out: &mut Records) {
+fn minting_with_several_assets(tree: &Tree, out: &mut Offences) {
     if tree.items(ASSET).len() <= 1 {
         return;
     }
@@ -83,7 +83,7 @@ fn in_statements(tree: &Tree, item: usize, kind: u8) -> Vec<usize> {
 }
 
 /// 23: entry whose signature text equals an earlier one's (Name).
-fn repeated_signatures(tree: &Tree, out: &mut Records) {
+fn repeated_signatures(tree: &Tree, out: &mut Offences) {
     let signed = |e: usize| (tree.name(e), signature(tree, e));
     let signatures: Vec<_> = tree.entries().into_iter().map(signed).collect();
     let met = met_before(&signatures);
@@ -91,19 +91,19 @@ fn repeated_signatures(tree: &Tree, out: &mut Records) {
 }
 
 /// "Each parameter: 24 is a state name, 25 met before in this entry (Name)."
-fn parameters(tree: &Tree, model: &Model, entry: usize, out: &mut Records) {
+fn parameters(tree: &Tree, model: &Model, entry: usize, out: &mut Offences) {
     let names: Vec<usize> = tree.params(entry).iter().map(|p| tree.name(*p)).collect();
     let repeated = repeats(25, tree, &names);
     for name in names {
         if model.is_state(tree.text(name)) {
             out.push(at(24, name));
         }
-        out.extend(repeated.iter().filter(|r| r.place == name as u16));
+        out.extend(repeated.iter().filter(|r| r.place == name));
     }
 }
 
 /// "Then each statement": 26 to 29.
-fn locals(tree: &Tree, model: &Model, entry: usize, out: &mut Records) {
+fn locals(tree: &Tree, model: &Model, entry: usize, out: &mut Offences) {
     let lets = lets(tree, entry);
     for statement in tree.statements(entry) {
         read_before_let(tree, &lets, statement, out);
@@ -121,7 +121,7 @@ fn lets<'a>(tree: &Tree<'a>, entry: usize) -> Vec<(usize, &'a [u8])> {
 }
 
 /// 26: an Ident naming a Let of this body with no such Let in an earlier statement.
-fn read_before_let(tree: &Tree, lets: &[(usize, &[u8])], statement: usize, out: &mut Records) {
+fn read_before_let(tree: &Tree, lets: &[(usize, &[u8])], statement: usize, out: &mut Offences) {
     for ident in tree.within(statement, IDENT) {
         let mut named = lets.iter().filter(|(_, text)| *text == tree.text(ident));
         if named.next().is_some_and(|(first, _)| *first >= statement) {
@@ -137,7 +137,7 @@ fn let_names(
     entry: usize,
     lets: &[(usize, &[u8])],
     statement: usize,
-    out: &mut Records,
+    out: &mut Offences,
 ) {
     let text = tree.name_text(statement);
     let first = lets.iter().find(|(_, earlier)| *earlier == text);
@@ -154,7 +154,7 @@ fn let_names(
 
 /// "Emits in entries, then genesis: 30 event not declared, else 31 argument count unlike that of
 /// the event's last declaration (Emit)."
-fn emits(tree: &Tree, out: &mut Records) {
+fn emits(tree: &Tree, out: &mut Offences) {
     let events = tree.items(EVENT);
     for item in tree.entries().into_iter().chain(tree.items(GENESIS)) {
         for emit in in_statements(tree, item, EMIT) {
@@ -175,7 +175,7 @@ fn count(tree: &Tree, i: usize) -> usize {
 
 /// "`deployer`, code 32, items in order: in an entry, signers (Name), then body Idents, then those
 /// of Limits, Denies, After as the clauses stand; in an Invariant, its Idents."
-fn deployer(tree: &Tree, out: &mut Records) {
+fn deployer(tree: &Tree, out: &mut Offences) {
     for item in tree.children(0) {
         let mut places = Vec::new();
         match tree.kind(item) {
@@ -203,7 +203,7 @@ fn clause_idents(tree: &Tree, entry: usize) -> Vec<usize> {
 }
 
 /// "Each Genesis: 33 Assign that has a root, which is no state name (Assign)"
-fn genesis_assigns(tree: &Tree, model: &Model, genesis: usize, out: &mut Records) {
+fn genesis_assigns(tree: &Tree, model: &Model, genesis: usize, out: &mut Offences) {
     for assign in in_statements(tree, genesis, ASSIGN) {
         let root = tree.resolve_root(tree.assign_target(assign));
         if root.is_some_and(|r| !model.is_state(tree.text(r))) {
@@ -213,7 +213,7 @@ fn genesis_assigns(tree: &Tree, model: &Model, genesis: usize, out: &mut Records
 }
 
 /// "35 signers not state names"
-fn signers(tree: &Tree, model: &Model, entry: usize, out: &mut Records) {
+fn signers(tree: &Tree, model: &Model, entry: usize, out: &mut Offences) {
     let names = signer_names(tree, entry).into_iter();
     let not_state = names.filter(|n| !model.is_state(tree.text(*n)));
     out.extend(not_state.map(|n| at(35, n)));
@@ -221,7 +221,7 @@ fn signers(tree: &Tree, model: &Model, entry: usize, out: &mut Records) {
 
 /// "then by clause 36 Writes or Reads name not state, 37 Conserves not known, 38 Mints, 39 Burns
 /// not declared (Name)"
-fn clauses(tree: &Tree, model: &Model, entry: usize, out: &mut Records) {
+fn clauses(tree: &Tree, model: &Model, entry: usize, out: &mut Offences) {
     for clause in tree.clauses(entry) {
         for name in tree.children_of(clause, |k| k == NAME) {
             let text = tree.text(name);
@@ -239,7 +239,7 @@ fn clauses(tree: &Tree, model: &Model, entry: usize, out: &mut Records) {
 
 /// "then 40 each Call whose callee, peeled at each step down Field bases, ends in Caller or in an
 /// Ident that is a `Q_Address` state field or parameter of the entry"
-fn external_calls(tree: &Tree, model: &Model, entry: usize, out: &mut Records) {
+fn external_calls(tree: &Tree, model: &Model, entry: usize, out: &mut Offences) {
     for call in calls(tree, entry) {
         let bottom = tree.bottom(tree.callee(call), |n| tree.peeled(n));
         let outward = match tree.kind(bottom) {
@@ -260,7 +260,7 @@ fn is_address(tree: &Tree, model: &Model, entry: usize, name: &[u8]) -> bool {
 }
 
 /// "34 each Call whose callee is neither Ident … nor Field …"
-fn unknown_calls(tree: &Tree, item: usize, out: &mut Records) {
+fn unknown_calls(tree: &Tree, item: usize, out: &mut Offences) {
     for call in calls(tree, item) {
         let function = tree.function(call).is_some_and(|f| FUNCTIONS.contains(&f));
         let method = tree.method(call).is_some_and(|(_, m)| METHODS.contains(&m));

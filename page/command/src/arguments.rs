@@ -34,6 +34,8 @@ pub struct Check {
     /// The folder that has a text for each image.
     pub sources: Option<PathBuf>,
     pub format: Format,
+    /// Whether the text has its faults by entry.
+    pub by_entry: bool,
     pub output: Option<PathBuf>,
     pub color: Color,
     /// The folder that paths in a SARIF log begin at.
@@ -93,6 +95,9 @@ fn command(given: &[OsString], first: &OsStr, rest: &[OsString]) -> Result<Comma
 const CHECK: &str = "check";
 const WHY: &str = "why";
 
+/// The one option that takes no value.
+const BY_ENTRY: &str = "--by-entry";
+
 fn word(given: &OsStr) -> String {
     given.to_string_lossy().into_owned()
 }
@@ -120,8 +125,10 @@ fn asked(command: &'static str, given: &[OsString]) -> Result<Asked, String> {
         if next == "--" {
             asked.images.extend(rest.by_ref().map(PathBuf::from));
         } else if is_option(next) && !(command == WHY && is_below_zero(next)) {
-            let (name, value) = split(next);
-            asked.option(&name, || value.or_else(|| rest.next().cloned()))?;
+            match split(next) {
+                (name, value) if name == BY_ENTRY => asked.group(value)?,
+                (name, value) => asked.option(&name, || value.or_else(|| rest.next().cloned()))?,
+            }
         } else {
             asked.images.push(next.into());
         }
@@ -143,6 +150,7 @@ struct Asked {
     source: Option<PathBuf>,
     sources: Option<PathBuf>,
     format: Option<Format>,
+    by_entry: bool,
     output: Option<PathBuf>,
     color: Option<Color>,
     root: Option<PathBuf>,
@@ -165,9 +173,19 @@ impl Asked {
         }
     }
 
+    /// The option without a value.
+    fn group(&mut self, value: Option<OsString>) -> Result<(), String> {
+        match (value, std::mem::replace(&mut self.by_entry, true)) {
+            _ if self.command != CHECK => Err(format!("`{BY_ENTRY}` is no option of `{}`", self.command)),
+            (Some(_), _) => Err(format!("`{BY_ENTRY}` takes no value")),
+            (None, true) => Err(format!("`{BY_ENTRY}` is given twice")),
+            (None, false) => Ok(()),
+        }
+    }
+
     /// The options together, where they go together.
     fn check(self) -> Result<Check, String> {
-        let Asked { command: _, images, source, sources, format, output, color, root } = self;
+        let Asked { command: _, images, source, sources, format, by_entry, output, color, root } = self;
         let format = format.unwrap_or_default();
         match images.len() {
             0 => return Err("`check` takes an image".to_string()),
@@ -183,7 +201,11 @@ impl Asked {
         if root.is_some() && format != Format::Sarif {
             return Err("`--root` goes with `--format sarif`".to_string());
         }
-        Ok(Check { images, source, sources, format, output, color: color.unwrap_or_default(), root })
+        if by_entry && matches!(format, Format::Numbers | Format::Sarif) {
+            return Err(IN_THE_LISTS_ORDER.to_string());
+        }
+        let color = color.unwrap_or_default();
+        Ok(Check { images, source, sources, format, by_entry, output, color, root })
     }
 
     /// The lot that is asked about: an image and a place.
@@ -215,6 +237,8 @@ fn place(given: &OsStr) -> Result<usize, String> {
 }
 
 const A_PLACE: &str = "a place is the number of a node, as a report has it for a 61 or 62";
+const IN_THE_LISTS_ORDER: &str = "`--by-entry` goes with text, html and json: numbers and sarif are in the order \
+    of the list, and have the entry in each line or result";
 const ONE_SOURCE: &str = "`--source` is the text of one image: call `check` once for each image, or give the \
     folder of the texts with `--sources`";
 const ONE_PAGE: &str = "a page is for one image: call `check` once for each";

@@ -71,7 +71,8 @@ fn read(check: &Check) -> Result<(Vec<Read>, Vec<PathBuf>), String> {
 /// Checks every image.
 fn checked(check: &Check) -> Result<Answer, String> {
     let (read, inputs) = read(check)?;
-    let subjects: Vec<Subject> = read.iter().map(Read::subject).collect();
+    let subject = |read| if check.by_entry { Read::subject(read).by_entry() } else { Read::subject(read) };
+    let subjects: Vec<Subject> = read.iter().map(subject).collect();
     let statuses = subjects.iter().map(status).collect::<Result<Vec<_>, _>>()?;
     let text = formed(check, &subjects, &statuses);
     let output = check.output.clone().filter(|path| !files::is_standard(path));

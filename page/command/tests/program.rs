@@ -13,7 +13,7 @@ use std::process::Stdio;
 #[test]
 fn numbers_of_document_01() {
     let ran = run(&["check", &sample("p2.image"), "--format", "numbers"]);
-    let expected = "resolve 0 0 0 0\naccess 0 0 0 0\nlinear 61 5 50 51\nlist 1\n61 5 0 50 51\n";
+    let expected = "resolve 0 0 0 0\naccess 0 0 0 0\nlinear 61 5 50 51\nlist 1\n61 5 0 2 50 51\n";
     assert_eq!((ran.status, ran.out.as_str(), ran.err.as_str()), (Some(OFFENCES), expected, ""));
 }
 
@@ -60,6 +60,42 @@ fn every_format() {
         assert!(ran.out.starts_with(start) && ran.out.ends_with('\n'), "{format}: {:.100}", ran.out);
         assert!(ran.out.contains("issued") || format == "numbers", "{format}");
     }
+}
+
+/// The first words of the lines that begin a fault, or the faults of an entry.
+fn begins(text: &str) -> Vec<&str> {
+    let marked = |line: &&str| ["[", "Entry ", "Outside "].iter().any(|word| line.starts_with(word));
+    text.lines().filter(marked).map(|line| line.split("] ").next().unwrap_or(line)).collect()
+}
+
+#[test]
+fn by_entry() {
+    let [image, source] = ["ward.image", "ward.quanta"].map(sample);
+    let check = |more: &[&str]| run(&[&["check", &image, "--source", &source], more].concat());
+    assert_eq!(begins(&check(&[]).out), ["[30", "[51", "[62"]);
+    let grouped = check(&["--by-entry"]);
+    assert_eq!((grouped.status, grouped.err.as_str()), (Some(OFFENCES), ""));
+    let headings = ["Entry `issue`, line 30: 2 faults", "Entry `destroy`, line 42: 1 fault"];
+    assert_eq!(begins(&grouped.out), [headings[0], "[51", "[62", headings[1], "[30"]);
+    // the option takes no value, so what follows it is an image
+    assert_eq!(run(&["check", "--by-entry", &image, "--source", &source]).out, grouped.out);
+    for format in ["--format=html", "--format=json"] {
+        assert_eq!(check(&[format, "--by-entry"]).out, check(&[format]).out, "{format}");
+    }
+    let two = run(&["check", "--by-entry", &image, &image]).out;
+    assert_eq!(two.matches("Entry `issue`, node 65: 2 faults\n").count(), 2);
+    let accepted = file("by-entry.image", &example::image("contract C { entry e() { } }"));
+    let accepted = ["check", path(&accepted), "--by-entry"];
+    assert_eq!(run(&accepted).out, run(&accepted[..2]).out);
+    for format in ["numbers", "sarif"] {
+        is_trouble(&check(&["--by-entry", "--format", format]), "`--by-entry` goes with text, html and json");
+    }
+    is_trouble(&check(&["--by-entry", "--by-entry"]), "`--by-entry` is given twice");
+    is_trouble(&check(&["--by-entry=yes"]), "`--by-entry` takes no value");
+    is_trouble(&run(&["why", &image, "86", "--by-entry"]), "`--by-entry` is no option of `why`");
+    assert!(
+        run(&["--help"]).out.contains("\n           --by-entry      text with the faults under a heading")
+    );
 }
 
 #[test]

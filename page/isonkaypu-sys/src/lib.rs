@@ -9,6 +9,10 @@ mod exported;
 
 use exported::{List, Pass, Question};
 
+/// The words of a record of a list: code, place, related, entry. `list` is refused with 9 where it is lent fewer
+/// for each offence.
+pub const RECORD: usize = 4;
+
 /// What lent places hold before a call, so that an answer that is not written shows.
 const UNSET: u8 = 0xa5;
 
@@ -107,7 +111,7 @@ fn question(function: Question, image: &[u8], name: &[u8]) -> (usize, u8) {
     (result, yes)
 }
 
-/// The full list: the result, 0 to 9, and the number of records.
+/// The full list: the result, 0 to 9, and the number of records, each of `RECORD` words.
 pub fn list(image: &[u8], words: &mut [u16]) -> (usize, usize) {
     listed(exported::isonkaypu_list, image, words)
 }
@@ -162,13 +166,13 @@ mod tests {
 
     #[test]
     fn the_library_answers() {
-        let mut words = [7; 3];
+        let mut words = [7; RECORD];
         assert_eq!(refusal(&[]), 1);
         assert_eq!(linear(&[0; 24]), Answer { number: 2, place: 0, from: 0, to: 0 });
         assert_eq!(verdicts(&[]).map(|answer| answer.number), [1; 3]);
         assert_eq!(is_known_asset(&[], b"QTOV"), (1, 0));
-        assert_eq!((list(&[], &mut words), words), ((1, 0), [7; 3]));
-        assert_eq!((why(&[], 5, &mut words), words), ((1, 0), [7; 3]));
+        assert_eq!((list(&[], &mut words), words), ((1, 0), [7; RECORD]));
+        assert_eq!((why(&[], 5, &mut words), words), ((1, 0), [7; RECORD]));
     }
 
     #[test]

@@ -4,7 +4,7 @@ use crate::ImageRefusal;
 use crate::why::Said;
 use isonkaypu_sys::Answer;
 
-/// "with a list buffer of 32,768 words": more than three for each offence that an image can have.
+/// "with a list buffer of 32,768 words": room for 8,192 records of four.
 const LIST_WORDS: usize = 32_768;
 
 /// The library's answers: the verdicts of the three passes, the list, and why a lot is refused.

@@ -21,6 +21,7 @@
 //!   here. **It is two byte offsets into the source that was parsed**, of the first byte and of the one
 //!   past the last; the image carries them as the contract has them and nobody judges them, so they may
 //!   lie outside of the source.
+//! - An offence names the entry that it stands in (`Offence::entry`), which is how reviewers are assigned.
 //! - `why` says which clauses and which statements use a lot, `lots` which lots there are. Every 61 and 62 of a
 //!   report has the same with it: `Offence::reasons`.
 //! - `show` makes reports for people and for programs of it, with the lines of the source.
@@ -39,6 +40,7 @@
 
 mod answers;
 mod doubt;
+mod entry;
 mod name;
 mod offence;
 mod pass;
@@ -48,6 +50,7 @@ mod report;
 mod why;
 
 pub use doubt::Doubt;
+pub use entry::Entry;
 pub use offence::{Offence, Place};
 pub use pack::{Limit, PackError};
 pub use pass::Pass;
@@ -123,7 +126,7 @@ pub fn library() -> &'static str {
 ///
 /// ```compile_fail,E0638
 /// fn code(offence: &isonkaypu::Offence) -> u16 {
-///     let isonkaypu::Offence { code, place: _, name: _, related: _, reasons: _ } = offence;
+///     let isonkaypu::Offence { code, place: _, name: _, related: _, entry: _, reasons: _ } = offence;
 ///     *code
 /// }
 /// ```

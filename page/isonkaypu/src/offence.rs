@@ -1,8 +1,9 @@
 //! One offence, as the list has it, with the name of the contract that it is about.
 
-use crate::Reason;
 use crate::name::name_of;
+use crate::{Entry, Reason};
 use form::Tree;
+use isonkaypu_sys::RECORD;
 use quanta_lexer::Span;
 use std::fmt;
 
@@ -41,6 +42,8 @@ pub struct Offence {
     /// again, the second use of a lot. With a `burns` clause, which is the earlier use, that is the first
     /// one in the statements, else the second there; where `burns` alone uses it twice there is none.
     pub related: Option<Place>,
+    /// The entry that it stands in; nothing outside of the entries: in state fields, events, genesis, invariants.
+    pub entry: Option<Entry>,
     /// Why a lot is refused, for 61 and 62: every clause and every use that counts for it, in the order of
     /// `Lot::reasons`. 61 has none of them, 62 two or more. `None` for all other codes, and where the library's
     /// answer was in doubt.
@@ -48,16 +51,17 @@ pub struct Offence {
 }
 
 impl Offence {
-    /// The offence of a record (code, place, related), where its code is one and its places are nodes. Its
-    /// reasons are another answer of the library's.
-    pub(crate) fn of(tree: &Tree, [code, place, related]: [u16; 3]) -> Option<Offence> {
+    /// The offence of a record (code, place, related, entry), where its code is one, its places are nodes, and its
+    /// entry is that of its place. Its reasons are another answer of the library's.
+    pub(crate) fn of(tree: &Tree, [code, place, related, entry]: [u16; RECORD]) -> Option<Offence> {
         crate::Pass::of_code(code)?;
         let place = Place::of(tree, usize::from(place))?;
         let related = match related {
             0 => None,
             node => Some(Place::of(tree, usize::from(node))?),
         };
-        Some(Offence { code, place, name: name_of(tree, code, place.node), related, reasons: None })
+        let entry = Entry::said(tree, place.node, entry)?;
+        Some(Offence { code, place, name: name_of(tree, code, place.node), related, entry, reasons: None })
     }
 }
 

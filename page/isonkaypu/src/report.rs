@@ -4,9 +4,9 @@
 use crate::answers::Answers;
 use crate::offence::{Offence, Place, counts_uses};
 use crate::why::Said;
-use crate::{Doubt, Lot, Pass, WhyError};
+use crate::{Doubt, Entry, Lot, Pass, WhyError};
 use form::Tree;
-use isonkaypu_sys::Answer;
+use isonkaypu_sys::{Answer, RECORD};
 use quanta_lexer::Span;
 use std::fmt;
 
@@ -24,10 +24,12 @@ impl Verdict {
     const ACCEPTED: Verdict = Verdict { code: 0, place: Place { node: 0, span: Span { start: 0, end: 0 } } };
 
     /// The offence that the pass met first, as far as a verdict tells: without its name, its related place
-    /// and its reasons. Nothing where the pass accepts.
-    pub fn offence(self) -> Option<Offence> {
+    /// and its reasons. Which entry of the image's tree it stands in is seen by its place. Nothing where the pass
+    /// accepts.
+    pub fn offence(self, tree: &Tree) -> Option<Offence> {
         let Verdict { code, place } = self;
-        (code != 0).then_some(Offence { code, place, name: None, related: None, reasons: None })
+        let entry = Entry::around(tree, place.node);
+        (code != 0).then_some(Offence { code, place, name: None, related: None, entry, reasons: None })
     }
 
     /// A number too large for its place becomes the largest, which is no code and no node.
@@ -143,7 +145,7 @@ fn offences(tree: Option<&Tree>, answers: &Answers, doubts: &mut Vec<Doubt>) -> 
         doubts.push(Doubt::List(answers.list));
         return Vec::new();
     }
-    let (records, _) = answers.words.as_chunks::<3>();
+    let (records, _) = answers.words.as_chunks::<RECORD>();
     let Some(records) = records.get(..answers.count) else {
         doubts.push(Doubt::Count(answers.count));
         return Vec::new();
@@ -182,7 +184,7 @@ mod tests {
     }
 
     fn accepting() -> Answers {
-        Answers { verdicts: [ACCEPTS; 3], list: 0, count: 0, words: vec![0; 9], why: Said::of }
+        Answers { verdicts: [ACCEPTS; 3], list: 0, count: 0, words: vec![0; 3 * RECORD], why: Said::of }
     }
 
     fn doubts(image: &[u8], answers: &Answers) -> Vec<Doubt> {
@@ -209,7 +211,7 @@ mod tests {
             let answers = Answers { list: number, ..accepting() };
             assert_eq!(doubts(&image, &answers), [Doubt::List(number)]);
         }
-        for count in [4, 32_768, usize::MAX / 3 + 1, usize::MAX] {
+        for count in [4, 32_768, usize::MAX / RECORD + 1, usize::MAX] {
             let answers = Answers { count, ..accepting() };
             assert_eq!(doubts(&image, &answers), [Doubt::Count(count)]);
         }
@@ -219,9 +221,11 @@ mod tests {
     fn a_record_that_nobody_can_read_is_not_accepted() {
         let [_, image] = images();
         let nodes = Tree::of(&image).unwrap().len() as u16;
-        for record in
-            [[0, 0, 0], [41, 1, 0], [63, 1, 0], [9, 1, 0], [61, nodes, 0], [61, 1, nodes], [61, 65_535, 0]]
-        {
+        let codes = [[0, 0, 0, 0], [41, 5, 0, 2], [63, 5, 0, 2], [9, 5, 0, 2]];
+        let places = [[61, nodes, 0, 2], [61, 5, nodes, 2], [61, 65_535, 0, 2]];
+        // no entry for a place in one, the contract, the place itself, no node, and an entry for a place in none
+        let entries = [[61, 5, 0, 0], [61, 5, 0, 1], [61, 5, 0, 5], [61, 5, 0, nodes], [61, 1, 0, 2]];
+        for record in codes.iter().chain(&places).chain(&entries).copied() {
             let answers = Answers { count: 1, words: record.to_vec(), ..accepting() };
             assert_eq!(doubts(&image, &answers), [Doubt::Record(record)]);
         }
@@ -238,14 +242,52 @@ mod tests {
         }
         // a verdict without its record, and the other way round
         assert_eq!(doubts(&offending, &linear(said)), [Doubt::Verdict(Pass::Linear)]);
-        let listed = Answers { count: 1, words: vec![61, 5, 0], ..accepting() };
+        let listed = Answers { count: 1, words: vec![61, 5, 0, 2], ..accepting() };
         assert_eq!(doubts(&offending, &listed), [Doubt::Verdict(Pass::Linear)]);
         // another place, another span
         for wrong in
             [Answer { place: 4, ..said }, Answer { from: 1, ..said }, Answer { to: usize::MAX, ..said }]
         {
-            let answers = Answers { count: 1, words: vec![61, 5, 0], ..linear(wrong) };
+            let answers = Answers { count: 1, words: vec![61, 5, 0, 2], ..linear(wrong) };
             assert_eq!(doubts(&offending, &answers), [Doubt::Verdict(Pass::Linear)]);
+        }
+    }
+
+    /// The library's own words. Document 02: P2's record is `61 5 0 2`. Of two entries of one name each offence has
+    /// its own, and outside of the entries it is 0.
+    #[test]
+    fn each_offence_has_its_entry() {
+        let [_, p2] = images();
+        let namesakes = "contract c { invariant y; entry e(x: Q_Asset) { } entry e(x: Q_Asset) { } }";
+        let of_namesakes = [[23, 11, 5, 10], [50, 3, 0, 0], [61, 7, 0, 4], [61, 13, 0, 10]];
+        for (image, records) in [(p2, &[[61, 5, 0, 2]][..]), (example::image(namesakes), &of_namesakes)] {
+            let mut words = vec![7; RECORD * records.len()];
+            assert_eq!(isonkaypu_sys::list(&image, &mut words), (0, records.len()));
+            assert_eq!(words.as_chunks::<RECORD>().0, records);
+            // one word short, every word stays as it was
+            let mut short = vec![7; words.len() - 1];
+            assert_eq!(isonkaypu_sys::list(&image, &mut short), (9, 0));
+            assert!(short.iter().all(|word| *word == 7));
+            let report = Report::of(&image, &Answers::of(&image).unwrap());
+            assert_eq!(report.doubts(), []);
+            let entry = |offence: &Offence| offence.entry.as_ref().map_or(0, |entry| entry.place.node as u16);
+            assert!(report.offences().iter().map(entry).eq(records.iter().map(|[.., entry]| *entry)));
+            assert!(
+                report.offences().iter().flat_map(|offence| &offence.entry).all(|entry| entry.name == "e")
+            );
+        }
+    }
+
+    /// Where there is no list, the first offence of a pass still stands in its entry.
+    #[test]
+    fn a_verdicts_entry_is_seen_by_its_place() {
+        for (text, entry) in [("invariant y; entry e() { }", None), ("entry e(x: Q_Asset) { }", Some(2))] {
+            let image = example::image(&format!("contract c {{ {text} }}"));
+            let report = Report::of(&image, &Answers::of(&image).unwrap());
+            let tree = report.tree().unwrap();
+            let offences = Pass::ALL.iter().filter_map(|pass| report.verdict(*pass).offence(&tree));
+            let entries: Vec<_> = offences.map(|one| one.entry.map(|entry| entry.place.node)).collect();
+            assert_eq!(entries, [entry], "{text}");
         }
     }
 
@@ -268,7 +310,8 @@ mod tests {
         assert_eq!(reasons(&unused), [(61, Some(0))]);
         assert_eq!(reasons(&used_twice().0), [(39, None), (62, Some(3))]);
         let report = Report::of(&unused, &Answers::of(&unused).unwrap());
-        assert_eq!(report.verdict(Pass::Linear).offence().and_then(|offence| offence.reasons), None);
+        let tree = report.tree().unwrap();
+        assert_eq!(report.verdict(Pass::Linear).offence(&tree).and_then(|offence| offence.reasons), None);
     }
 
     fn said(number: usize, words: &[u16]) -> Said {
@@ -329,7 +372,7 @@ mod tests {
 
     #[test]
     fn bytes_without_a_tree_are_not_accepted_on_any_record() {
-        let listed = Answers { count: 1, words: vec![61, 5, 0], ..accepting() };
-        assert_eq!(doubts(b"no image", &listed), [Doubt::Record([61, 5, 0])]);
+        let listed = Answers { count: 1, words: vec![61, 5, 0, 0], ..accepting() };
+        assert_eq!(doubts(b"no image", &listed), [Doubt::Record([61, 5, 0, 0])]);
     }
 }

@@ -73,7 +73,7 @@ impl Asked<'_> {
 
     /// The entry that the offence stands in; node 0 where it stands in none.
     fn entry(&self) -> usize {
-        self.facts.tree.entry_of(self.node()).unwrap_or(0)
+        self.offence.entry.as_ref().map_or(0, |entry| entry.place.node)
     }
 
     /// Whether an offence of this code stands at the same place.

@@ -37,7 +37,7 @@ impl Blanks<'_> {
         let node = self.offence.place.node;
         match blank {
             "name" => self.name(),
-            "entry" => self.tree.entry_of(node).map_or("?".to_string(), |e| self.text(e + 1)),
+            "entry" => self.offence.entry.as_ref().map_or("?", |entry| &entry.name).to_string(),
             "where" => self.item(),
             "other" => self.bottom(node + 2),
             "called" => self.called(node + 1),

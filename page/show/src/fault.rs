@@ -1,16 +1,16 @@
 //! An offence in words, with the contract's own names: what every form for people is made from.
 
 use crate::advice::Asked;
-use crate::blanks::{Blanks, text};
+use crate::blanks::Blanks;
 use crate::edit::Way;
 use crate::facts::Facts;
 use crate::lots::{Lots, clauses};
 use crate::others::others;
 use crate::uses::{Use, places, uses};
 use form::Tree;
-use isonkaypu::{Doubt, Offence, Pass, Report, Span};
+use isonkaypu::{Doubt, Entry, Offence, Pass, Report, Span};
 use std::borrow::Cow;
-use words::{Case, Entry};
+use words::Case;
 
 /// A place with what to say of it.
 #[derive(Clone, Debug, PartialEq)]
@@ -60,8 +60,8 @@ pub struct Fault {
     pub case: Case,
     /// The same as `mend` for a program: each way as a list of edits. Empty where only people can follow.
     pub ways: Vec<Way>,
-    /// The entry that it stands in.
-    pub entry: Option<String>,
+    /// The entry that it stands in; nothing outside of the entries.
+    pub entry: Option<Entry>,
 }
 
 impl Fault {
@@ -78,22 +78,22 @@ pub fn faults(report: &Report) -> Vec<Fault> {
     let Some(tree) = report.tree() else {
         return Vec::new();
     };
-    let nothing = Entry::default();
-    let offences = offences(report);
+    let nothing = words::Entry::default();
+    let offences = offences(report, &tree);
     let facts = Facts { tree: &tree, lots: &Lots::of(report.image()) };
     let in_words = |offence: &Offence| {
-        let entry = words::code(offence.code).unwrap_or(&nothing);
-        fault(entry, &Asked { facts, offence, offences: &offences })
+        let said = words::code(offence.code).unwrap_or(&nothing);
+        fault(said, &Asked { facts, offence, offences: &offences })
     };
     offences.iter().map(in_words).collect()
 }
 
 /// The list; where there was no room for it, the first offence of each pass.
-fn offences(report: &Report) -> Cow<'_, [Offence]> {
+fn offences<'r>(report: &'r Report, tree: &Tree) -> Cow<'r, [Offence]> {
     if !list_refused(report) {
         return Cow::Borrowed(report.offences());
     }
-    Pass::ALL.iter().filter_map(|pass| report.verdict(*pass).offence()).collect()
+    Pass::ALL.iter().filter_map(|pass| report.verdict(*pass).offence(tree)).collect()
 }
 
 /// "1 fault", "2 faults"
@@ -106,36 +106,36 @@ pub fn list_refused(report: &Report) -> bool {
     report.doubts().iter().any(|doubt| matches!(doubt, Doubt::List(_) | Doubt::Count(_)))
 }
 
-fn fault(entry: &Entry, asked: &Asked) -> Fault {
+fn fault(said: &words::Entry, asked: &Asked) -> Fault {
     let Asked { facts, offence, .. } = *asked;
     let (tree, node) = (facts.tree, offence.place.node);
     let advice = asked.advice();
     let blanks = Blanks { tree, offence, of_case: &advice.blanks };
     let listed = |of: usize| of == node || offence.related.is_some_and(|related| related.node == of);
     let mark = |of: usize, label: &str| Mark::of(tree, of, blanks.fill(label), listed(of));
-    let reasons = offence.reasons.as_ref().map(|reasons| uses(facts, reasons, entry, mark));
-    let there = || others(facts, offence).into_iter().map(|other| mark(other, &entry.there)).collect();
+    let reasons = offence.reasons.as_ref().map(|reasons| uses(facts, reasons, said, mark));
+    let there = || others(facts, offence).into_iter().map(|other| mark(other, &said.there)).collect();
     Fault {
         code: offence.code,
         pass: Pass::of_code(offence.code).unwrap_or(Pass::Resolve),
-        title: entry.title.clone(),
-        sentence: blanks.fill(sentence(entry, offence)),
-        here: mark(node, &entry.here),
+        title: said.title.clone(),
+        sentence: blanks.fill(sentence(said, offence)),
+        here: mark(node, &said.here),
         others: reasons.as_deref().map_or_else(there, places),
         reasons,
-        mend: blanks.fill(entry.mend_for(advice.case)),
+        mend: blanks.fill(said.mend_for(advice.case)),
         case: advice.case,
         ways: advice.ways,
-        entry: tree.entry_of(node).map(|entry| text(tree, entry + 1)),
+        entry: offence.entry.clone(),
     }
 }
 
 /// The sentence of an offence. Of a lot that is used more than once it says where `burns` is a use: the clauses
 /// among its reasons decide that, never whether the list has a related place.
-fn sentence<'w>(entry: &'w Entry, offence: &Offence) -> &'w str {
+fn sentence<'w>(said: &'w words::Entry, offence: &Offence) -> &'w str {
     match clauses(offence.reasons.as_deref().unwrap_or_default()).count() {
-        0 => &entry.fault,
-        1 => &entry.burned,
-        _ => &entry.twice,
+        0 => &said.fault,
+        1 => &said.burned,
+        _ => &said.twice,
     }
 }

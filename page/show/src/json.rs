@@ -6,12 +6,12 @@ pub mod value;
 use crate::about::{self, TOOL, VERSION};
 use crate::region::Region;
 use crate::unread::Unread;
-use crate::{Difference, Fault, Mark, Source, Subject, Text, Use, faults, sha256};
-use isonkaypu::{Doubt, Pass, Report, Span};
+use crate::{Difference, Fault, Group, Mark, Source, Subject, Text, Use, by_entry, faults, sha256};
+use isonkaypu::{Doubt, Entry, Pass, Report, Span};
 use value::{Value, list, object};
 
 /// What the form is called; it changes when a key goes or changes its meaning.
-const SCHEMA: &str = "isonkaypu-report-3";
+const SCHEMA: &str = "isonkaypu-report-4";
 
 /// The report on a subject as a JSON text.
 pub fn json(subject: &Subject) -> String {
@@ -37,6 +37,7 @@ fn of(subject: &Subject) -> Value {
         ("outcome", outcome(subject, source.as_ref())),
         ("verdicts", report.map(verdicts).into()),
         ("offences", report.map(|report| offences(report, source.as_ref())).into()),
+        ("by_entry", report.map(|report| groups(report, source.as_ref())).into()),
         ("complete", report.map(|report| report.doubts().is_empty()).into()),
         ("doubts", report.map(|report| list(report.doubts().iter().map(Doubt::to_string))).into()),
         ("checked", list(about::checked(subject).iter().map(|(_, check)| check.word))),
@@ -140,7 +141,7 @@ fn offence(fault: &Fault, name: Option<&str>, source: Option<&Source>) -> Value 
         ("title", fault.title.as_str().into()),
         ("sentence", fault.sentence.as_str().into()),
         ("name", name.into()),
-        ("entry", fault.entry.as_deref().into()),
+        ("entry", fault.entry.as_ref().map(|one| entry(one, source)).into()),
         ("place", place(&fault.here, source)),
         ("related", list(fault.related().map(|mark| related(mark, source)))),
         (
@@ -148,6 +149,29 @@ fn offence(fault: &Fault, name: Option<&str>, source: Option<&Source>) -> Value 
             fault.reasons.as_ref().map(|uses| list(uses.iter().map(|one| reason(one, source)))).into(),
         ),
         ("mend", fault.mend.as_str().into()),
+    ])
+}
+
+/// Which offences stand in which entry, by their places in the list of them.
+fn groups(report: &Report, source: Option<&Source>) -> Value {
+    let group = |group: &Group| {
+        object([
+            ("entry", group.entry.map(|one| entry(one, source)).into()),
+            ("count", group.faults.len().into()),
+            ("offences", list(group.faults.iter().copied())),
+        ])
+    };
+    list(by_entry(&faults(report)).iter().map(group))
+}
+
+/// The node tells entries of one name apart.
+fn entry(entry: &Entry, source: Option<&Source>) -> Value {
+    let place = entry.place;
+    object([
+        ("name", entry.name.as_str().into()),
+        ("node", place.node.into()),
+        ("span", span(place.span)),
+        ("region", Region::of(source, place.span).map(|r| region(&r)).into()),
     ])
 }
 

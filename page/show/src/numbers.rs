@@ -5,7 +5,8 @@ use crate::subject::{Outcome, Subject};
 use isonkaypu::{Offence, Pass, Place, Report};
 
 /// "It prints `image N` alone on refusal N. Otherwise: per pass a line (name, code, place, two span
-/// words), `list` and the count (or `list refused 9`), per record a line".
+/// words), `list` and the count (or `list refused 9`), per record a line". Document 02 puts the entry into that line,
+/// "after related".
 ///
 /// Of a contract that has no image, `image N` is what its image would be refused with. Document 01 has no
 /// number, and no line, for an image that does not say what the contract says; then it is `not packed`, which
@@ -40,5 +41,6 @@ fn list(report: &Report) -> String {
 fn record(offence: &Offence) -> String {
     let Place { node, span, .. } = offence.place;
     let related = offence.related.map_or(0, |place| place.node);
-    format!("{} {node} {related} {} {}\n", offence.code, span.start, span.end)
+    let entry = offence.entry.as_ref().map_or(0, |entry| entry.place.node);
+    format!("{} {node} {related} {entry} {} {}\n", offence.code, span.start, span.end)
 }

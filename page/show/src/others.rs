@@ -17,7 +17,7 @@ pub fn others(facts: Facts, offence: &Offence) -> Vec<usize> {
 /// The declaration that a name collides with, comes before or does not fit.
 fn declared(facts: Facts, offence: &Offence) -> Option<usize> {
     let name = offence.name.as_deref()?;
-    let entry = facts.tree.entry_of(offence.place.node);
+    let entry = offence.entry.as_ref().map(|entry| entry.place.node);
     let named = |entry: usize, kind: u8| facts.parts(entry, kind).find(|part| facts.is(part + 1, name));
     match offence.code {
         24 | 28 => facts.field(name).map(|field| field + 1),

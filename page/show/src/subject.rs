@@ -57,22 +57,27 @@ pub struct Subject<'a> {
     label: &'a str,
     outcome: Outcome<'a>,
     text: Text<'a>,
+    by_entry: bool,
 }
 
 impl<'a> Subject<'a> {
     /// A contract whose image was checked. The label is what the reader calls it: the image's name.
     pub fn checked(label: &'a str, report: &'a Report) -> Subject<'a> {
-        Subject { label, outcome: Outcome::Checked(report), text: Text::NotGiven }
+        Subject::of(label, Outcome::Checked(report))
     }
 
     /// Bytes that are no image.
     pub fn no_image(label: &'a str, image: &'a [u8], refusal: ImageRefusal) -> Subject<'a> {
-        Subject { label, outcome: Outcome::NoImage { image, refusal }, text: Text::NotGiven }
+        Subject::of(label, Outcome::NoImage { image, refusal })
     }
 
     /// A contract that could not be packed.
     pub fn not_packed(label: &'a str, error: PackError) -> Subject<'a> {
-        Subject { label, outcome: Outcome::NotPacked(error), text: Text::NotGiven }
+        Subject::of(label, Outcome::NotPacked(error))
+    }
+
+    fn of(label: &'a str, outcome: Outcome<'a>) -> Subject<'a> {
+        Subject { label, outcome, text: Text::NotGiven, by_entry: false }
     }
 
     /// The same with the contract's text and what the reader calls that. The image's spans are byte offsets
@@ -87,6 +92,17 @@ impl<'a> Subject<'a> {
             (Outcome::Checked(report), _) => held(report.tree(), given),
         };
         Subject { text, ..self }
+    }
+
+    /// The same with its faults grouped by entry in the text for people, which else has them in the list's order. A
+    /// page is always by entry, and JSON has both orders.
+    pub fn by_entry(self) -> Subject<'a> {
+        Subject { by_entry: true, ..self }
+    }
+
+    /// Whether the text for people has its faults by entry.
+    pub fn is_by_entry(&self) -> bool {
+        self.by_entry
     }
 
     /// What the reader calls what the report is about: the text where it is shown, else the image.

@@ -13,9 +13,9 @@ use crate::source::Source;
 use crate::subject::Subject;
 use crate::terminal::{safe, wrapped};
 use crate::unread::Unread;
-use crate::{about, notice};
+use crate::{Group, about, by_entry, entries, notice};
 use form::Tree;
-use isonkaypu::{Pass, Report, Span};
+use isonkaypu::{Entry, Pass, Report, Span};
 
 /// The report as text. Where the source is missing, or a place is not in it, the entry, the node's number
 /// and the span stand instead.
@@ -77,12 +77,18 @@ fn checked(subject: &Subject, report: &Report, ink: Ink) -> String {
     let source = subject.source().map(Source::of);
     let placed: Vec<_> =
         faults.iter().map(|fault| placed(&fault.here, &fault.others, source.as_ref())).collect();
-    let page = Page::of(subject, placed.iter().flatten(), ink);
-    let mut text = opening(subject, report, faults.len(), ink);
-    for (fault, placed) in faults.iter().zip(&placed) {
-        text += &(page.fault(fault, placed) + "\n");
-    }
-    text + &summary(report, &faults) + &words::last_lines(faults.first().map(|fault| fault.code))
+    let page = Page::of(subject, source.as_ref(), placed.iter().flatten(), ink);
+    let one = |i: usize| page.fault(&faults[i], &placed[i]) + "\n";
+    let of_entry =
+        |group: &Group| page.heading(group) + &group.faults.iter().map(|i| one(*i)).collect::<String>();
+    let shown: String = match subject.is_by_entry() {
+        true => by_entry(&faults).iter().map(of_entry).collect(),
+        false => (0..faults.len()).map(one).collect(),
+    };
+    opening(subject, report, faults.len(), ink)
+        + &shown
+        + &summary(report, &faults)
+        + &words::last_lines(faults.first().map(|fault| fault.code))
 }
 
 /// The banner and what is to be said before the faults.
@@ -165,25 +171,51 @@ fn placed<'f, 's>(here: &'f Mark, others: &'f [Mark], source: Option<&'s Source<
 struct Page<'a> {
     label: String,
     tree: Option<Tree<'a>>,
-    source: bool,
+    source: Option<&'a Source<'a>>,
     /// How wide the numbers of lines are.
     width: usize,
     ink: Ink,
 }
 
 impl<'a> Page<'a> {
-    fn of<'p>(subject: &Subject<'a>, placed: impl Iterator<Item = &'p Placed<'p, 'p>>, ink: Ink) -> Page<'a> {
+    fn of<'p>(
+        subject: &Subject<'a>,
+        source: Option<&'a Source<'a>>,
+        placed: impl Iterator<Item = &'p Placed<'p, 'p>>,
+        ink: Ink,
+    ) -> Page<'a> {
         let lines = placed.filter_map(|place| place.excerpt.as_ref().map(|excerpt| excerpt.line));
         let width = lines.max().unwrap_or(0).to_string().len();
         let tree = subject.report().and_then(|report| report.tree());
-        Page { label: safe(subject.label()), tree, source: subject.source().is_some(), width, ink }
+        Page { label: safe(subject.label()), tree, source, width, ink }
     }
 
-    /// A fault: its sentence, its places, how to mend it.
+    /// "Entry `issue`, line 9: 2 faults"
+    fn heading(&self, group: &Group) -> String {
+        let which = match group.entry {
+            Some(entry) => format!("Entry `{}`, {}", entry.name, entries::place(entry, self.source)),
+            None => "Outside of the entries".to_string(),
+        };
+        format!("{}\n\n", self.ink.strong(&format!("{which}: {}", counted(group.faults.len()))))
+    }
+
+    /// "in entry `issue`"
+    fn within(&self, entry: Option<&Entry>) -> String {
+        match self.tree.as_ref().zip(entry) {
+            Some((tree, entry)) => format!("in {}", entries::in_words(tree, entry, self.source)),
+            None => "outside of the entries".to_string(),
+        }
+    }
+
+    /// A fault: its sentence, its entry, its places, how to mend it. A place without a line names its entry itself.
     fn fault(&self, fault: &Fault, placed: &[Placed]) -> String {
         let head = self.ink.bad(&format!("[{}]", fault.code));
         let said = headed(&head, &fault.code.to_string(), &fault.sentence);
-        said + &self.all(placed) + &mend(&fault.mend, self.ink)
+        let within = match placed {
+            [Placed { excerpt: Some(_), .. }, ..] => format!("  {}\n", self.within(fault.entry.as_ref())),
+            _ => String::new(),
+        };
+        said + &within + &self.all(placed) + &mend(&fault.mend, self.ink)
     }
 
     /// Places one after the other, those on one line under it together.
@@ -213,10 +245,9 @@ impl<'a> Page<'a> {
 
     fn without_excerpt(&self, mark: &Mark) -> String {
         let Mark { node, span, label, .. } = mark;
-        let tree = self.tree.as_ref();
-        let entry = tree.and_then(|tree| Some(crate::blanks::text(tree, tree.entry_of(*node)? + 1)));
-        let within = entry.map_or("outside of the entries".to_string(), |name| format!("in entry `{name}`"));
-        let outside = if self.source { ", which is no place in the text" } else { "" };
+        let entry = self.tree.as_ref().and_then(|tree| Entry::around(tree, *node));
+        let within = self.within(entry.as_ref());
+        let outside = if self.source.is_some() { ", which is no place in the text" } else { "" };
         format!("  {within}, node {node}, bytes {} to {}{outside}: {label}\n", span.start, span.end)
     }
 }

@@ -8,6 +8,7 @@ use crate::common::{fitted, images, respanned, sample, shown, shown_source, show
 use isonkaypu::Limit;
 
 const KEYS: &[&str] = &[
+    "by_entry",
     "checked",
     "complete",
     "doubts",
@@ -46,7 +47,7 @@ fn a_faulty_contract() {
         assert_eq!(keys(offence.at("place")), ["label", "node", "region", "span"]);
     }
     let (changed, twice) = (json.at("offences/1"), json.at("offences/2"));
-    assert_eq!(changed.at("entry").text(), "issue");
+    assert_eq!(changed.at("entry/name").text(), "issue");
     assert_eq!([changed.at("name").text(), twice.at("name").text()], ["issued", "part"]);
     assert_eq!(cut(&source, changed.at("place")), "issued = checked(issued + amount);");
     assert_eq!(cut(&source, twice.at("place")), "let part = stock.get(ward).split(amount);");
@@ -104,7 +105,7 @@ fn an_accepted_contract() {
     let json = Json::read(&shown_source(show::json, &common::mended()));
     assert_eq!(json.at("outcome/result").text(), "accepted");
     assert_eq!(json.at("outcome/refusal"), &Json::Null);
-    assert_eq!(json.at("offences"), &Json::List(vec![]));
+    assert_eq!((json.at("offences").list(), json.at("by_entry").list()), (&[][..], &[][..]));
     let accepted: Vec<_> = json.at("verdicts").list().iter().map(|v| v.at("accepted").clone()).collect();
     assert_eq!(accepted, vec![Json::Bool(true); 3]);
     assert_eq!(json.at("not_checked").list().len(), words::gaps().len());
@@ -116,7 +117,9 @@ fn no_image() {
     assert_eq!(keys(&json), KEYS);
     assert_eq!(json.at("outcome/result").text(), "no image");
     assert_eq!(json.at("outcome/refusal/number").number(), 1);
-    assert_eq!((json.at("verdicts"), json.at("offences")), (&Json::Null, &Json::Null));
+    for key in ["verdicts", "offences", "by_entry"] {
+        assert_eq!(json.at(key), &Json::Null, "{key}");
+    }
     let gaps: Vec<&str> = json.at("not_checked").list().iter().map(Json::text).collect();
     assert_eq!(gaps[..5], ["names", "access", "lots", "supply (conserve)", "signed authority"]);
     assert_eq!((gaps.len(), json.at("checked").list().len()), (3 + words::gaps().len(), 0));

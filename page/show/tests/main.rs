@@ -6,6 +6,7 @@ mod browser;
 mod claims;
 mod common;
 mod contrast;
+mod entries;
 mod html;
 mod json;
 mod library;

@@ -92,7 +92,9 @@ const OBJECTS: &[(&str, &[Property])] = &[
         ("startLine", MUST, From(1)), ("startColumn", MAY, From(1)), ("endLine", MAY, From(1)),
         ("endColumn", MAY, From(1)), ("byteOffset", MAY, From(0)), ("byteLength", MAY, From(0)),
     ]),
-    ("logicalLocation", &[("fullyQualifiedName", MUST, Text), ("kind", MAY, Word(PLACES))]),
+    ("logicalLocation", &[
+        ("name", MAY, Text), ("fullyQualifiedName", MUST, Text), ("kind", MAY, Word(PLACES)), ("properties", MAY, Bag),
+    ]),
 ];
 
 /// Holds an object against its row of the table, and what stands in it against theirs.

@@ -55,7 +55,8 @@ fn the_examples() {
 #[test]
 fn places_and_labels() {
     let fault = only("state { f: u8; } entry e(a: u8, a: u8) { }");
-    assert_eq!((fault.code, fault.pass, fault.entry.as_deref()), (25, Pass::Resolve, Some("e")));
+    let entry = fault.entry.as_ref().map(|entry| (entry.place.node, entry.name.as_str()));
+    assert_eq!((fault.code, fault.pass, entry), (25, Pass::Resolve, Some((7, "e"))));
     let related = fault.others.first().expect("related");
     assert_eq!((fault.here.label.as_str(), related.label.as_str()), ("named again here", "named first here"));
     assert!(related.node < fault.here.node && related.span.start < fault.here.span.start);

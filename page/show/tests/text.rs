@@ -51,12 +51,14 @@ fn with_the_source() {
 REFUSED  ward.quanta: 2 faults
 
 [51] entry `issue` changes `issued`, which its `writes` clause does not name
+  in entry `issue`
   ward.quanta:7:9
   7 |         issued = issued + 1;
     |         ^^^^^^^^^^^^^^^^^^^^ changed here
   mend: write `writes stock, issued`, or leave `issued` alone
 
 [62] the lot `lot` is used more than once: stock would count double
+  in entry `issue`
   ward.quanta:4:17
   4 |     entry issue(lot: Q_Asset<Morphine>, to: Q_Address)
     |                 ^^^ this lot
@@ -101,6 +103,7 @@ REFUSED  ward.quanta: 1 fault
 
 [62] the lot `lot` is used more than once, since its `burns` clause is a use too: stock would count
      double
+  in entry `destroy`
   ward.quanta:3:19
   3 |     entry destroy(lot: Q_Asset<Morphine>, to: Q_Address)
     |                   ^^^ this lot
@@ -131,6 +134,7 @@ fn burned_twice() {
     let expected = "
 [62] the lot `lot` is burned more than once, since several parameters have its name: stock would be
      written off twice
+  in entry `destroy`
   ward.quanta:4:19
   4 |     entry destroy(lot: Q_Asset<Morphine>, lot: Q_Asset<Fentanyl>, to: Q_Address)
     |                   ^^^ this lot
@@ -228,7 +232,7 @@ const ABOVE: &str = "C e E\n";
 fn excerpt(source: &[u8], from: u32, to: u32) -> String {
     let above = ABOVE.len() as u32;
     let text = with_span(source, above + from, above + to);
-    let lines = text.lines().skip(4).take_while(|line| !line.starts_with("  mend: "));
+    let lines = text.lines().skip(5).take_while(|line| !line.starts_with("  mend: "));
     lines.map(|line| format!("{line}\n")).collect()
 }
 
@@ -247,6 +251,7 @@ fn two_places_on_one_line() {
     let text = of("contract C { state { x: u8; x: u8; } }");
     let expected = "\
 [20] the state field `x` is declared twice
+  outside of the entries
   ward.quanta:1:29
   ward.quanta:1:22
   1 | contract C { state { x: u8; x: u8; } }

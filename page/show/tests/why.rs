@@ -79,6 +79,17 @@ Read more: `isonkaypu explain 62`, `isonkaypu explain use`
     assert!(twice.contains("This one has 2 uses (2 by `burns`), so"), "{twice}");
 }
 
+/// Where two entries have one name, the answer says which of them is meant.
+#[test]
+fn a_lot_of_one_of_two_entries() {
+    let text = "contract C {\n    entry e(x: Q_Asset<M>) { }\n    entry e(x: Q_Asset<M>, to: Q_Address) { send(to, x); }\n}\n";
+    let first = |lot, source| of(show::why, text, lot, source).lines().next().map(str::to_string);
+    let said = |answer: &str| Some(answer.to_string());
+    assert_eq!(first(0, Some(text)), said("NO USE  ward.quanta: the lot `x` of entry `e` (line 2), node 5"));
+    assert_eq!(first(1, Some(text)), said("1 USE  ward.quanta: the lot `x` of entry `e` (line 3), node 13"));
+    assert_eq!(first(1, None), said("1 USE  ward.image: the lot `x` of entry `e` (node 10), node 13"));
+}
+
 /// Of a text that is not the image's no line is shown, and the answer says so first.
 #[test]
 fn another_text() {

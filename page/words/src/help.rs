@@ -144,7 +144,9 @@ const LINES: &str = "\
 
 const PEOPLE: &str = "\
 `isonkaypu check FILE` writes the same report in words; with `--source TEXT`, the text that you uploaded, it shows
-each fault in its line. Its last lines say what was checked and what was not:
+each fault in its line, and says which entry that is in. Where each entry has its own reviewer, `--by-entry` puts the
+faults of each entry together, under a heading with its name; a page (`--format html`) is always so. The last lines
+say what was checked and what was not:
 
 ";
 

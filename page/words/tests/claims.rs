@@ -265,8 +265,8 @@ fn maxima() {
     for (number, maximum) in maxima {
         said(number, maximum);
     }
-    // the report's list has 32,768 words, three to a record
-    said(9, 32_768 / 3);
+    // the report's list has 32,768 words, four to a record
+    said(9, 32_768 / 4);
 }
 
 /// "4,096 words are enough for every image": two for each node, and each clause or use has a node of its own.
@@ -277,15 +277,49 @@ fn room_for_every_use() {
     assert!(how.contains("two words for each clause and each use; 4,096 words are enough"), "{how}");
 }
 
-/// "the line `61 5 0 50 51` is about the lot at node 5", and every other number is no lot's.
+/// "the line `61 5 0 2 50 51` is about the lot at node 5", and every other number is no lot's.
 #[test]
 fn the_number_of_a_lot() {
     let how = &words::refusal(13).expect("13").how;
-    assert!(how.contains("the line `61 5 0 50 51` is about the lot at node 5"), "{how}");
+    assert!(how.contains("the line `61 5 0 2 50 51` is about the lot at node 5"), "{how}");
     let image = example::image("contract c { entry e(x: Q_Asset) { } }");
     let lots: Vec<usize> = isonkaypu::lots(&image).expect("lots").iter().map(|lot| lot.place.node).collect();
     assert_eq!(lots, [5]);
     assert_eq!(isonkaypu::why(&image, 4), Err(isonkaypu::WhyError::NoLot(4)));
+}
+
+/// "it is in a state field, an event, genesis or an invariant", where it stands in no entry; and there are both sorts.
+#[test]
+fn what_stands_outside_of_the_entries() {
+    let line = words::lines().iter().find(|line| line.word == "in entry NAME").expect("the line");
+    assert!(
+        line.means.contains("it is in a state field, an event, genesis or an invariant."),
+        "{}",
+        line.means
+    );
+    let outside = [form::kind::STATE, form::kind::EVENT, form::kind::GENESIS, form::kind::INVARIANT];
+    let more = "contract C { asset M; asset M; state { m: u8; } event E(); invariant deployer == 1; \
+                genesis { m.fly(); x = 1; emit F(); emit E(1); mint_asset(1); } entry e() { emit F(); } }";
+    let texts = words::codes().iter().map(|entry| entry.before.as_str()).chain([more]);
+    let mut met = std::collections::BTreeSet::new();
+    for text in texts {
+        let report = check_image(&example::image(text)).expect("an image");
+        let tree = report.tree().expect("a tree");
+        for offence in report.offences() {
+            let around = |item: &usize| (*item..tree.end(*item)).contains(&offence.place.node);
+            let item = tree.kind(tree.children(0).find(around).expect("an item"));
+            assert_eq!(offence.entry.is_none(), outside.contains(&item), "{text}: {offence}");
+            met.insert(item);
+        }
+    }
+    assert!(met.into_iter().eq(outside.into_iter().chain([form::kind::ENTRY])));
+}
+
+/// "Two entries may have one name where the types of their parameters differ (23)."
+#[test]
+fn entries_of_one_name() {
+    assert_eq!(codes("entry e(x: u8) { } entry e(x: u16) { } entry e() { }"), []);
+    assert_eq!(codes("entry e(x: u8) { } entry e(y: u8) { }"), [23]);
 }
 
 /// "Of calls within each other it is the inner one", as the lines of the answer say.

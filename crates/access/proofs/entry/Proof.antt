@@ -6,6 +6,7 @@ use Rattle.records.proofs.Laws.{added-nothing, added-by}
 use Rattle.records.proofs.Sweep.{keep-none, has-not}
 use Rattle.nodes.specs.Shown.{treeOf}
 use Rattle.nodes.specs.First.{Head}
+use Rattle.nodes.proofs.Entries.{entry-holds, part-held}
 use Rattle.nodes.proofs.Turns.{set-fresh, taken-off}
 use Rattle.access.specs.Seen.{writtenIn}
 use Rattle.access.proofs.Lent.{body-of, entry-51}
@@ -24,7 +25,7 @@ statements-requires c κs = let W = c .before .before .before .before .before .b
 statements-requires-2 : tie.Need-statements-requires-2
 statements-requires-2 c κs =
     let T = c .before .before .before .before .before .before .before .before .before .before .pre .0 in
-    (body-of (c .before .before .before .before .before .before .before .before .before .before .args .item) T (c .before .before .statements .ensures (T .view)) (set-fresh (c .before .before .before .declared-writes .ensures (T .view) (λ w. false) (T .clean))), c .before .before .before .before .before .before .before .before .before .before .pre .3)
+    (body-of (c .before .before .before .before .before .before .before .before .before .before .args .item) T (c .before .before .statements .ensures (T .view)) (set-fresh (c .before .before .before .declared-writes .ensures (T .view) (λ w. false) (T .clean))), c .before .before .before .before .before .before .before .before .before .before .pre .3, search needs)
 
 returns-2 : tie.Need-returns-2
 returns-2 c =
@@ -35,7 +36,7 @@ returns-2 c =
     let S = c .before .before .before .before .before .before .before .before .before .before .first-statement .ensures in
     let s = c .before .before .before .before .before .before .before .statements .ensures in
     let d = c .before .before .before .before .before .before .before .before .declared-writes .ensures in (
-      added-by (λ T. body-of e T (s (T .view)) (set-fresh (d (T .view) (λ w. false) (T .clean)))) (λ T. let W = T .view in entry-51 W (P .1) (P .2) (sym (k W) ∙ i) (S W)) (c .before .before .before .before .statements2 .ensures),
+      added-by (λ T. let W = T .view in part-held W (P .1) (P .2) (body-of e T (s W) (set-fresh (d W (λ w. false) (T .clean)))) (entry-holds W (P .1) (P .2) (sym (k W) ∙ i)) (s W) (S W .after)) (λ T. let W = T .view in entry-51 W (P .1) (P .2) (sym (k W) ∙ i) (S W)) (c .before .before .before .before .statements2 .ensures),
       λ T. let W = T .view in taken-off (writtenIn (treeOf W) e) (c .declared-writes2 .ensures W (writtenIn (treeOf W) e) (set-fresh (d W (λ w. false) (T .clean)))),
     )
 

@@ -1,13 +1,16 @@
 -- `invariant` meets its contract: another item has no 50; in an Invariant each node is asked.
 use native.Mathlib.Omega.{arith}
 use borrow.Author.Needs.{needs}
-use mathlib.Core.Path.{_∙_, sym, refl}
+use mathlib.Core.Path.{_≡_, _∙_, sym, refl}
 use Prim.Native.Nat.{_+_, _-_}
 use Rattle.rules.specs.Tree.{ident}
+use Rattle.rules.specs.All.{entryOf}
 use Rattle.rules.specs.Access.{rule50}
 use Rattle.records.proofs.Laws.{asked, added-nothing}
 use Rattle.records.proofs.Sweep.{Sweeping, sweep-starts, sweep-again, sweep-long, swept, run-below, keep-one, keep-none, has-one, has-not}
 use Rattle.nodes.specs.Shown.{treeOf}
+use Rattle.nodes.proofs.Steps.{in-tree}
+use Rattle.nodes.proofs.Entries.{none-holds}
 use Rattle.nodes.proofs.Spans.{Span, span-below}
 use Rattle.nodes.specs.State.{State}
 use Rattle.access.specs.Seen.{at50}
@@ -16,7 +19,7 @@ use Rattle.access.proofs.invariant.Tie as tie
 
 abbrev Inv-loop : tie.InvT-loop
 Inv-loop nodes item state out₀ count end total₀ p₀ out total p =
-    Span nodes 0 (item + 1) end × Sweeping (λ (T : State nodes 0 state) i. at50 i (treeOf (T .view))) (item + 1) end 1 out₀ count out total p
+    Span nodes 0 (item + 1) end × Sweeping (in-tree (λ (T : State nodes 0 state). T .view)) (λ T i. at50 i (treeOf (T .view))) (item + 1) end 1 out₀ count out total p
 
 abbrev μ-loop : tie.MeasureT-loop
 μ-loop nodes item state out₀ count end total₀ p₀ out total p = end - p
@@ -27,8 +30,17 @@ returns c = added-nothing (λ T. keep-none _ _ (has-not _ 8 (λ e. c .if1 .taken
 loop-holds : tie.Need-loop-holds Inv-loop μ-loop
 loop-holds c = let W = c .before .before .before .before .before .pre .0 .view in let S = span-below W (c .before .before .before .before .before .pre .1) (c .end .ensures W) in (S, sweep-starts (S .order))
 
+-- no node of an Invariant stands in an entry
+no-entry : (c : tie.In-loop Inv-loop μ-loop) (T : State (c .before .before .before .before .before .before .before .args .nodes .now) 0 (c .before .before .before .before .before .before .before .args .state .now)) → entryOf (treeOf (T .view)) (c .before .loop .p) ≡ 0
+no-entry c T =
+    let W = T .view in
+    let l = c .before .loop .inv .1 .low in
+    let e = c .before .before .end .ensures W in
+    let h = c .loop-test .taken in
+    none-holds W (c .before .before .before .before .before .before .before .pre .1) (c .before .before .before .before .before .before .before .pre .3) 8 refl refl (sym (c .before .before .before .before .kind .ensures W) ∙ c .before .before .before .if1 .left) _ (omega arith) (omega arith)
+
 loop-again : tie.Need-loop-again Inv-loop μ-loop
-loop-again c = let i = c .before .before .before .before .before .before .loop .inv in (i .0, sweep-again (i .1) (asked 50 _ _ (c .before .before .before .before .rule50 .ensures) (c .before .before .emit-if .ensures)) (c .before .before .before .before .before .loop-test .taken))
+loop-again c = let i = c .before .before .before .before .before .before .loop .inv in (i .0, sweep-again (i .1) (asked (λ T. T) 50 _ (no-entry (c .before .before .before .before .before)) _ (c .before .before .before .before .rule50 .ensures) (c .before .before .emit-if .ensures)) (c .before .before .before .before .before .loop-test .taken))
 
 same-length : tie.Need-same-length Inv-loop μ-loop
 same-length c = sweep-long (c .before .loop .inv .1) (c .before .before .before .before .before .before .before .pre .0)

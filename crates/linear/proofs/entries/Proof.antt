@@ -10,6 +10,7 @@ use Rattle.records.proofs.Laws.{added-by}
 use Rattle.records.proofs.Sweep.{Sweeping, sweep-starts, sweep-on, sweep-long, swept, run-below, keep-none}
 use Rattle.nodes.specs.Shown.{treeOf}
 use Rattle.nodes.proofs.Spans.{Span, span-below, child-on}
+use Rattle.nodes.proofs.Steps.{in-tree}
 use Rattle.nodes.proofs.Shapes.{allIn, skips-items}
 use Rattle.nodes.proofs.Cursors.{Over, before-last, past-last, still-over, on-to}
 use Rattle.linear_occurrences.specs.Counted.{Clear}
@@ -20,7 +21,7 @@ use Rattle.linear.proofs.entries.Tie as tie
 
 abbrev Inv-loop : tie.InvT-loop
 Inv-loop words nodes reader burned₀ consumers₀ places₀ first₀ last₀ tallies₀ out₀ to total₀ children₀ burned consumers places first last tallies out total children =
-    Over 0 to children × Span nodes 0 1 to × Sweeping (λ (T : LinearTables nodes words reader burned₀ places₀ first₀ last₀ tallies₀) i. itemLinear i (treeOf (T .known .view))) 1 to 3070 out₀ 0 out total (children .at)
+    Over 0 to children × Span nodes 0 1 to × Sweeping (in-tree (λ (T : LinearTables nodes words reader burned₀ places₀ first₀ last₀ tallies₀). T .known .view)) (λ T i. itemLinear i (treeOf (T .known .view))) 1 to 3070 out₀ 0 out total (children .at)
     × ((T : LinearTables nodes words reader burned₀ places₀ first₀ last₀ tallies₀) → Clean (T .known .view .image) burned places first last tallies × Clear (children .at) consumers)
 
 abbrev μ-loop : tie.MeasureT-loop

@@ -1,8 +1,8 @@
 -- `entry` meets its contract: its rows are tracked and the 60s laid, marks and uses counted, each row judged, and the tables cleaned.
 use borrow.Author.Needs.{needs}
 use native.Mathlib.Omega.{arith}
-use mathlib.Core.Path.{_≡_, refl, sym, _∙_}
-use Rattle.records.proofs.Laws.{added-nothing, added-by, added-as, added-join}
+use mathlib.Core.Path.{_≡_, sym, _∙_}
+use Rattle.records.proofs.Laws.{added-nothing}
 use Rattle.records.proofs.Sweep.{keep-none, has-not}
 use Rattle.nodes.specs.Shown.{treeOf}
 use Rattle.nodes.proofs.Parts.{past}
@@ -11,7 +11,7 @@ use Rattle.linear.specs.Seen.{LinearTables}
 use Rattle.linear_tracked.specs.Rows.{Unrowed}
 use Rattle.linear.proofs.Judged.{blanked}
 use Rattle.linear_occurrences.proofs.Ahead.{clear-later}
-use Rattle.linear.proofs.Between.{unrowed-of, placed-of, filled-of, item-is}
+use Rattle.linear.proofs.Between.{unrowed-of, placed-of, filled-of, item-laid}
 use Rattle.linear.proofs.entry.Statement.{statement}
 use Rattle.linear.proofs.entry.Tie as tie
 
@@ -38,7 +38,9 @@ tally-requires : tie.Need-tally-requires
 tally-requires c κs = let d = (c .before .before .before .before .before .before .before .before .before .before .before .before) in let b = d .before .before .before .before .pre in (filled-of (b .0) (is-entry d (b .0)) (c .before .before .before .before .before .before .before .track .ensures .0 .1 (unrowed d (b .0)) .1), b .1, b .2, b .3)
 
 judge-requires : tie.Need-judge-requires
-judge-requires c κs = let d = (c .before .before .before .before .before .before .before .before .before .before .before .before .before .before .before .before) in let l = d .before .before .before .before .pre .4 in let f = c .before .before .before .before .before .before .before .before .before .before .before .track .ensures .1 .few in (c .before .before .before .before .before .before .before .before .before .before .before .track .ensures .0 .0, omega arith)
+judge-requires c κs =
+    let p = c .before .before .before .before .before .before .before .before .before .before .before .before .before .before .before .before .before .before .before .before .pre in let l = p .4 in let i = p .1 .2 in let t = c .before .before .before .before .before .before .before .before .before .before .before .track .ensures in let f = t .1 .few in let n = t .0 .0 in
+    (omega arith, n, omega arith)
 
 untrack-requires : tie.Need-untrack-requires
 untrack-requires c κs = let d = (c .before .before .before .before .before .before .before .before .before .before .before .before .before .before .before .before .before .before .before .before .before) in let b = d .before .before .before .before .pre in placed-of (b .0) (b .1) (c .before .before .before .before .before .before .before .before .before .before .before .before .before .before .before .before .track .ensures .0 .1 (unrowed d (b .0)) .1)
@@ -49,9 +51,11 @@ untrack-requires-2 c κs = let d = (c .before .before .before .before .before .b
 returns-2 : tie.Need-returns-2
 returns-2 c =
     let d = (c .before .before .before .before .before .before .before .before .before .before .before .before .before .before .before .before .before .before .before .before .before .before .before .before .before) in let b = d .before .before .before .before .pre in let e = d .before .before .before .before .args .item in
-    let r = c .before .before .before .before .before .before .before .before .before .before .before .before .before .before .before .before .before .before .before .before .track .ensures .0 .1 in let y = c .before .before .before .before .before .before .before .before .before .before .before .before .tally .ensures in let j = c .before .before .before .before .before .before .before .before .judge .ensures in (
-      added-as (λ T. let R = r (unrowed d T) .1 in let h = is-entry d T in item-is (T .known .view .image) e h R (y (filled-of T h R) .2))
-          (added-join (added-by (λ T. unrowed d T) (λ T. refl) (c .before .before .before .before .before .before .before .before .before .before .before .before .before .before .before .before .before .before .before .before .track .ensures .1)) (added-by (λ T. tt) (λ T. refl) (j .0))),
+    let r = c .before .before .before .before .before .before .before .before .before .before .before .before .before .before .before .before .before .before .before .before .track .ensures .0 .1 in let a = c .before .before .before .before .before .before .before .before .before .before .before .before .before .before .before .before .before .before .before .before .track .ensures .1 in let y = c .before .before .before .before .before .before .before .before .before .before .before .before .tally .ensures in let j = c .before .before .before .before .before .before .before .before .judge .ensures in (
+      record {
+        laid = λ T. let R = r (unrowed d T) .1 in let h = is-entry d T in item-laid T h R (b .1) (b .2) (y (filled-of T h R) .2) (a .laid (unrowed d T)) (j .0 .laid tt);
+        few = let f = a .few in let g = j .0 .few in omega arith;
+      },
       λ T.
           let R = r (unrowed d T) .1 in
           let G = y (filled-of T (is-entry d T) R) in (

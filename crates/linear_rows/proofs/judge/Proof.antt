@@ -12,16 +12,16 @@ use Rattle.linear_rows.proofs.judge.Statement.{statement}
 use Rattle.linear_rows.proofs.judge.Tie as tie
 
 abbrev Inv-loop : tie.InvT-loop
-Inv-loop n places tallies₀ out₀ count total₀ row₀ tallies out total row = Blanked tallies₀ row tallies × Sweeping (λ (_ : Unit {0}). judgedAt places tallies₀) 0 n 2 out₀ count out total row
+Inv-loop entry n places tallies₀ out₀ count total₀ row₀ tallies out total row = Blanked tallies₀ row tallies × Sweeping (λ (_ : Unit {0}) _. entry) (λ _. judgedAt places tallies₀) 0 n 2 out₀ count out total row
 
 abbrev μ-loop : tie.MeasureT-loop
-μ-loop n places tallies₀ out₀ count total₀ row₀ tallies out total row = n - row
+μ-loop entry n places tallies₀ out₀ count total₀ row₀ tallies out total row = n - row
 
 loop-holds : tie.Need-loop-holds Inv-loop μ-loop
 loop-holds c = (blanked-none _, sweep-starts (omega arith))
 
 judge-row-requires : tie.Need-judge-row-requires Inv-loop μ-loop
-judge-row-requires c κs = let f = c .before .before .before .loop .inv .1 .few in let h = c .before .before .loop-test .taken in let p = c .before .before .before .before .before .pre in (omega arith, omega arith)
+judge-row-requires c κs = let f = c .before .before .before .loop .inv .1 .few in let h = c .before .before .loop-test .taken in let p = c .before .before .before .before .before .pre in (p .0, omega arith, omega arith)
 
 loop-again : tie.Need-loop-again Inv-loop μ-loop
 loop-again c =

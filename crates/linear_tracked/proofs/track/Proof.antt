@@ -9,11 +9,12 @@ use Rattle.records.proofs.Laws.{added-by}
 use Rattle.records.proofs.Sweep.{Sweeping, sweep-starts, sweep-on, sweep-long, swept, run-below, keep-none}
 use Rattle.nodes.specs.Shown.{View, treeOf}
 use Rattle.nodes.proofs.Spans.{Span, span-below, child-on}
+use Rattle.nodes.proofs.Steps.{in-tree}
 use Rattle.nodes.proofs.Shapes.{allIn, skips-parts, within}
 use Rattle.nodes.proofs.Cursors.{Over, before-last, past-last, stands, still-over, on-to}
 use Rattle.linear_parts.specs.Parts.{rowsBefore}
 use Rattle.linear_tracked.specs.Rows.{Rows, Unrowed, at60}
-use Rattle.linear_tracked.proofs.Walk.{walk-starts, walk-on, walk-done, part-at}
+use Rattle.linear_tracked.proofs.Walk.{walk-starts, walk-on, walk-done, part-at, part-held}
 use Rattle.linear_tracked.proofs.track.Statement.{statement}
 use Rattle.linear_tracked.proofs.track.Tie as tie
 
@@ -21,7 +22,7 @@ abbrev Inv-loop : tie.InvT-loop
 Inv-loop words nodes entry places₀ first₀ last₀ out₀ count to tracked₀ children₀ places first last out tracked children =
     Over 0 to children × Span nodes 0 (entry + 1) to × (4 * tracked .rows + (entry + 1) ≤ children .at)
     × ((T : Unrowed nodes words entry places₀ first₀ last₀) → Rows (T .known .view .image) (rowsBefore entry (children .at) (treeOf (T .known .view))) (tracked .rows) places first last)
-    × Sweeping (λ (T : Unrowed nodes words entry places₀ first₀ last₀) i. at60 i (treeOf (T .known .view)) entry) (entry + 1) to 1 out₀ count out (tracked .count) (children .at)
+    × Sweeping (in-tree (λ (T : Unrowed nodes words entry places₀ first₀ last₀). T .known .view)) (λ (T : Unrowed nodes words entry places₀ first₀ last₀) i. at60 i (treeOf (T .known .view)) entry) (entry + 1) to 1 out₀ count out (tracked .count) (children .at)
 
 abbrev μ-loop : tie.MeasureT-loop
 μ-loop words nodes entry places₀ first₀ last₀ out₀ count to tracked₀ children₀ places first last out tracked children = to - children .at
@@ -44,7 +45,7 @@ below-entry c W = let i = c .before .before .loop .inv in let l = i .4 .low in l
 take-part-requires : tie.Need-take-part-requires Inv-loop μ-loop
 take-part-requires c κs =
     let d = (c .before .before .before .before) in let T = d .before .before .before .before .before .before .pre .0 in let i = d .before .before .loop .inv in let b = below-entry d (T .known .view) in let f = i .2 in let g = i .4 .few in let h = i .4 .high in let u = i .1 .under in
-    (part-at T (b .0) (b .1) (i .3 T), omega arith, omega arith)
+    (part-at T (b .0) (b .1) (i .3 T), T .here .2, omega arith, omega arith)
 
 step-requires : tie.Need-step-requires Inv-loop μ-loop
 step-requires c κs = let d = (c .before .before .before .before .before .before .before) in let T = d .before .before .before .before .before .before .pre .0 in let b = below-entry d (T .known .view) in stands (d .before .before .loop .inv .0) (d .before .before .before .before .before .before .args .nodes .now) (within (T .known .view) (T .here) (b .0) (b .1))
@@ -68,7 +69,7 @@ loop-again c =
           let W = T .known .view in
           let d = b W in
           walk-on (W .image) (h .before .before .before .before .before .before .args .entry) (d .0) (m .0) (λ j a z. skips-parts param-let refl W (T .here) (let y = T .is-entry .after in omega arith) (d .0) (d .1) (on W) j a z) (t .0 (part-at T (d .0) (d .1) (i .3 T)) .1 _ (i .3 T))),
-      sweep-on (i .4) (added-by (λ T. let d = b (T .known .view) in part-at T (d .0) (d .1) (i .3 T)) (λ T. refl) (t .1)) (m .0) (m .1)
+      sweep-on (i .4) (added-by (λ T. let d = b (T .known .view) in part-held T (d .0) (d .1) (part-at T (d .0) (d .1) (i .3 T))) (λ T. refl) (t .1)) (m .0) (m .1)
           (λ T j a z. let W = T .known .view in let d = b W in keep-none _ j (skips-parts «let» refl W (T .here) (let y = T .is-entry .after in omega arith) (d .0) (d .1) (on W) j a z)),
     )
 

@@ -20,7 +20,7 @@ use Rattle.lot_words.proofs.tell_marks.Statement.{statement}
 use Rattle.lot_words.proofs.tell_marks.Tie as tie
 
 abbrev Inv-loop : tie.InvT-loop
-Inv-loop asset nodes entry to row clauses first out₀ total₀ children₀ out total children = Over 0 to children × Span nodes 0 (entry + 1) to × Sweeps Wrote (λ (T : Marking nodes entry asset clauses first) i. each (clauseWords (treeOf (T .clausal .view)) entry) (burnAt (treeOf (T .clausal .view)) entry (T .row-of) (row - 1) i)) (entry + 1) to 2 out₀ 0 out total (children .at)
+Inv-loop asset nodes entry to row clauses first out₀ total₀ children₀ out total children = Over 0 to children × Span nodes 0 (entry + 1) to × Sweeps (λ _. Wrote) (λ (T : Marking nodes entry asset clauses first) i. each (clauseWords (treeOf (T .clausal .view)) entry) (burnAt (treeOf (T .clausal .view)) entry (T .row-of) (row - 1) i)) (entry + 1) to 2 out₀ 0 out total (children .at)
 
 abbrev μ-loop : tie.MeasureT-loop
 μ-loop asset nodes entry to row clauses first out₀ total₀ children₀ out total children = to - children .at
@@ -30,7 +30,7 @@ unfolding has
 params c = until-head (c .pre .1) 10 refl
 
 loop-holds : tie.Need-loop-holds Inv-loop μ-loop
-loop-holds c = let S = until-span (params (c .before .before)) in (record { part = refl; last = refl }, S, sweeps-start wrote-follows (S .order))
+loop-holds c = let S = until-span (params (c .before .before)) in (record { part = refl; last = refl }, S, sweeps-start (λ _. wrote-follows) (S .order))
 
 tell-mark-requires : tie.Need-tell-mark-requires Inv-loop μ-loop
 tell-mark-requires c κs =
@@ -53,7 +53,7 @@ loop-again c =
     let N = params (c .before .before .before .before .before .before .before .before .before .before .before) in
     let m = until-on N (omega arith) h on in
     let q = c .before .before .before .before .tell-mark .ensures in
-    (still-over (i .0) (c .before .step .ensures), i .1, sweeps-on wrote-follows (i .2) (q .1) (q .0) (m .0) (m .1) (λ T j a b. each-none _ (keep-none _ j (until-skips N (omega arith) h on refl (T .clausal .view) j a b))))
+    (still-over (i .0) (c .before .step .ensures), i .1, sweeps-on (λ _. wrote-follows) (i .2) (q .1) (q .0) (m .0) (m .1) (λ T j a b. each-none _ (keep-none _ j (until-skips N (omega arith) h on refl (T .clausal .view) j a b))))
 
 same-length : tie.Need-same-length Inv-loop μ-loop
 same-length c = wrote-long (c .before .before .loop .inv .2 .laid (c .before .before .before .before .before .pre .0))
@@ -62,7 +62,7 @@ returns : tie.Need-returns Inv-loop μ-loop
 returns c =
     let i = c .before .before .loop .inv in
     let u = i .1 .under in
-    let D = sweeps-done wrote-follows (i .2) (past-last (i .0) (c .if1 .left)) in
+    let D = sweeps-done (λ _. wrote-follows) (i .2) (past-last (i .0) (c .if1 .left)) in
     let f = D .0 in
     (λ T. wrote-as (marks-told (params (c .before .before .before .before .before)) T (c .before .before .before .before .before .args .row - 1)) (D .1 T), omega arith)
 

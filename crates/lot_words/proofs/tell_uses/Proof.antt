@@ -21,7 +21,7 @@ use Rattle.lot_words.proofs.tell_uses.Tie as tie
 abbrev Inv-loop : tie.InvT-loop
 Inv-loop nodes base row reader consumers₀ last out₀ count end total₀ p₀ consumers out total p =
     Span nodes base base end
-    × Sweeps Wrote (λ (T : Telling nodes base reader last) i. each (useWords (treeOf (T .counting .view)) (T .counting .entry)) (useAt (treeOf (T .counting .view)) (T .counting .entry) (T .row-of) (row - 1) i)) base end 2 out₀ count out total p
+    × Sweeps (λ _. Wrote) (λ (T : Telling nodes base reader last) i. each (useWords (treeOf (T .counting .view)) (T .counting .entry)) (useAt (treeOf (T .counting .view)) (T .counting .entry) (T .row-of) (row - 1) i)) base end 2 out₀ count out total p
     × ((T : Telling nodes base reader last) → Ahead (treeOf (T .counting .view)) base p consumers)
 
 abbrev μ-loop : tie.MeasureT-loop
@@ -34,7 +34,7 @@ loop-holds : tie.Need-loop-holds Inv-loop μ-loop
 loop-holds c =
     let W = c .before .before .pre .0 .counting .view in
     let S = span-whole W (upto-is W) in
-    (S, sweeps-start wrote-follows (S .order), λ T. ahead-starts (treeOf (T .counting .view)) (c .before .before .pre .1))
+    (S, sweeps-start (λ _. wrote-follows) (S .order), λ T. ahead-starts (treeOf (T .counting .view)) (c .before .before .pre .1))
 
 occurrence-at-requires : tie.Need-occurrence-at-requires Inv-loop μ-loop
 occurrence-at-requires c κs = let i = c .before .before .loop .inv in let h = c .before .loop-test .taken in let a = i .1 .low in let b = i .0 .held in let u = i .0 .under in (c .before .before .before .before .before .pre .0 .counting, (a, omega arith, omega arith))
@@ -60,7 +60,7 @@ loop-again c =
     let a = i .1 .low in
     let q = c .before .before .tell-use .ensures in (
       i .0,
-      sweeps-again wrote-follows (i .1) (q .1)
+      sweeps-again (λ _. wrote-follows) (i .1) (q .1)
           (λ T.
           let r = c .before .before .before .before .occurrence-at .ensures in
           let f = T .counting .first .after in
@@ -79,7 +79,7 @@ returns c =
     let i = c .before .loop .inv in
     let l = c .loop-test .left in
     let u = i .0 .under in
-    let D = sweeps-done wrote-follows (i .1) l in
+    let D = sweeps-done (λ _. wrote-follows) (i .1) l in
     let f = D .0 in (
       λ T.
           let t = treeOf (T .counting .view) in

@@ -12,7 +12,7 @@ judge-requires : tie.Need-judge-requires
 judge-requires c κs = (c .before .before .before .before .before .before .pre .image, search needs)
 
 returns : tie.Need-returns
-returns c = judged-admitted (c .before .before .before .before .before .before .before .args .pass) _ (c .before .before .before .before .before .before .before .pre .image .admitted) (c .judge .ensures _ (c .before .before .before .list-with .ensures .laid (looked-of (c .before .before .before .before .before .before .before .pre))))
+returns c = judged-admitted (c .before .before .before .before .before .before .before .args .pass) _ (c .before .before .before .before .before .before .before .pre .image .admitted) (c .judge .ensures _ _ (c .before .before .before .list-with .ensures .laid (looked-of (c .before .before .before .before .before .before .before .pre))))
 
 pub first-with-spec : {M : Type 1} → statement M
 first-with-spec = tie.close (tie.spec (λ c. search needs) list-with-requires (λ c. search needs) judge-requires returns)

@@ -11,4 +11,4 @@ returns-2 : tie.Need-returns-2
 returns-2 c = added-none _ (c .if1 .left)
 
 pub emit-if-spec : {M : Type 1} → statement M
-emit-if-spec = tie.close (tie.spec (λ c. search needs) (λ c κs. search needs) (λ c. search needs) returns returns-2)
+emit-if-spec = tie.close (tie.spec (λ c. search needs) (λ c. search needs) (λ c κs. search needs) (λ c. search needs) returns returns-2)

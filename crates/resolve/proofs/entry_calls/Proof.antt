@@ -13,6 +13,7 @@ use Rattle.nodes.proofs.Turns.{set-fresh, taken-off}
 use Rattle.nodes.specs.Shown.{treeOf}
 use Rattle.resolve_calls.proofs.Lent.{lent-calling, lent-known}
 use Rattle.resolve_calls.specs.Called.{paramTyped}
+use Rattle.nodes.proofs.Entries.{head-part}
 use Rattle.resolve.proofs.Lent.{by-typing}
 use Rattle.rules.specs.Resolve.{rule34, rule40}
 use Rattle.resolve.proofs.entry_calls.Statement.{statement}
@@ -40,27 +41,29 @@ returns c = let H = c .before .before .before .before .before .before .before .b
 calls40-requires : tie.Need-calls40-requires
 calls40-requires c κs = let T = c .before .before .before .before .before .before .before .before .before .before .pre .0 in
     let l = c .before .before .before .before .before .before .before .before .before .before .pre .2 in
-    (lent-calling (c .before .before .before .before .before .before .before .before .before .before .args .entry) (T .view) (c .before .before .before .before .before .statements .ensures (T .view)) (T .field-marks) (set-fresh (c .before .before .before .before .before .before .mark-params .ensures (by-typing T) (λ w. false) (T .clean))), omega arith)
+    (lent-calling (c .before .before .before .before .before .before .before .before .before .before .args .entry) (T .view) (c .before .before .before .before .before .statements .ensures (T .view)) (T .field-marks) (set-fresh (c .before .before .before .before .before .before .mark-params .ensures (by-typing T) (λ w. false) (T .clean))), omega arith, let m = c .before .before .before .before .before .before .before .before .before .before .pre .1 .here .2 in omega arith)
 
 calls34-requires : tie.Need-calls34-requires
 calls34-requires c κs = let T = c .before .before .before .before .before .before .before .before .before .before .before .before .before .before .before .before .pre .0 in
     let f = c .before .before .before .before .before .calls40 .ensures .few in
     let l = c .before .before .before .before .before .before .before .before .before .before .before .before .before .before .before .before .pre .2 in
-    (lent-known (c .before .before .before .before .before .before .before .before .before .before .before .before .before .before .before .before .args .entry) (T .view) (c .before .before .before .before .before .before .before .before .before .before .before .statements .ensures (T .view)) (T .builtin-marks) (T .method-marks), omega arith)
+    (lent-known (c .before .before .before .before .before .before .before .before .before .before .before .before .before .before .before .before .args .entry) (T .view) (c .before .before .before .before .before .before .before .before .before .before .before .statements .ensures (T .view)) (T .builtin-marks) (T .method-marks), omega arith, let m = c .before .before .before .before .before .before .before .before .before .before .before .before .before .before .before .before .pre .1 .here .2 in omega arith)
 
 returns-2 : tie.Need-returns-2
-returns-2 c = let H = c .before .before .before .before .before .before .before .before .before .before .before .before .before .before .before .before .before .before .before .pre .1 in (
-  added-join
-      (added-by (λ T. lent-calling (c .before .before .before .before .before .before .before .before .before .before .before .before .before .before .before .before .before .before .before .args .entry) (T .view) (c .before .before .before .before .before .before .before .before .before .before .before .before .before .before .statements .ensures (T .view)) (T .field-marks) (set-fresh (c .before .before .before .before .before .before .before .before .before .before .before .before .before .before .before .mark-params .ensures (by-typing T) (λ w. false) (T .clean))))
-      (λ T. let W = T .view in flat-calls W (H .here) (H .positive) (inr (head-is H W)) (head-first H W) (rule40 (treeOf W) (c .before .before .before .before .before .before .before .before .before .before .before .before .before .before .before .before .before .before .before .args .entry)))
-      (c .before .before .before .before .before .before .before .before .calls40 .ensures))
-      (added-by (λ T. lent-known (c .before .before .before .before .before .before .before .before .before .before .before .before .before .before .before .before .before .before .before .args .entry) (T .view) (c .before .before .before .before .before .before .before .before .before .before .before .before .before .before .statements .ensures (T .view)) (T .builtin-marks) (T .method-marks))
-      (λ T. let W = T .view in flat-calls W (H .here) (H .positive) (inr (head-is H W)) (head-first H W) (rule34 (treeOf W)))
-      (c .before .before .calls34 .ensures)),
-  λ T.
-      let Q = paramTyped (treeOf (T .view)) (c .before .before .before .before .before .before .before .before .before .before .before .before .before .before .before .before .before .before .before .args .entry) in
-      taken-off Q (c .before .before .before .before .mark-params3 .ensures (by-typing T) Q (set-fresh (c .before .before .before .before .before .before .before .before .before .before .before .before .before .before .before .mark-params .ensures (by-typing T) (λ w. false) (T .clean)))),
-)
+returns-2 c =
+    let H = c .before .before .before .before .before .before .before .before .before .before .before .before .before .before .before .before .before .before .before .pre .1 in
+    let e = c .before .before .before .before .before .before .before .before .before .before .before .before .before .before .before .before .before .before .before .args .entry in
+    let S = c .before .before .before .before .before .before .before .before .before .before .before .before .before .before .statements .ensures in
+    let m = c .before .before .before .before .before .before .before .before .before .before .before .before .before .before .before .mark-params .ensures in (
+      added-join
+          (added-by (λ T. let W = T .view in head-part H W (lent-calling e W (S W) (T .field-marks) (set-fresh (m (by-typing T) (λ w. false) (T .clean)))) (S W))
+          (λ T. let W = T .view in flat-calls W (H .here) (H .positive) (inr (head-is H W)) (head-first H W) (rule40 (treeOf W) e))
+          (c .before .before .before .before .before .before .before .before .calls40 .ensures))
+          (added-by (λ T. let W = T .view in head-part H W (lent-known e W (S W) (T .builtin-marks) (T .method-marks)) (S W))
+          (λ T. let W = T .view in flat-calls W (H .here) (H .positive) (inr (head-is H W)) (head-first H W) (rule34 (treeOf W)))
+          (c .before .before .calls34 .ensures)),
+      λ T. let Q = paramTyped (treeOf (T .view)) e in taken-off Q (c .before .before .before .before .mark-params3 .ensures (by-typing T) Q (set-fresh (m (by-typing T) (λ w. false) (T .clean)))),
+    )
 
 mark-params-requires : tie.Need-mark-params-requires
 mark-params-requires c κs = (by-typing (c .before .before .before .pre .0), c .before .before .before .pre .1)

@@ -6,6 +6,9 @@ use native.Mathlib.Omega.{arith}
 use Rattle.records.proofs.Laws.{added-most, added-by, added-join}
 use Rattle.nodes.specs.First.{Head}
 use Rattle.nodes.proofs.Spans.{span-of}
+use Rattle.rules.specs.All.{entryOf}
+use Rattle.nodes.specs.Shown.{treeOf}
+use Rattle.nodes.proofs.Entries.{entry-holds}
 use Rattle.resolve_deployer.proofs.Deployer.{body-32, lent-range, lent-table, table-of}
 use Rattle.rules.specs.Resolve.{deployerIn, rule32}
 use Rattle.resolve_deployer.proofs.entry32.Statement.{statement}
@@ -28,7 +31,7 @@ words-requires c κs = let T = c .before .before .before .before .before .before
     let S = c .before .before .statements .ensures (T .view) in
     let f = c .before .before .before .before .before .signers .ensures .few in
     let l = c .before .before .before .before .before .before .before .before .before .before .pre .2 in
-    (lent-table (c .before .before .before .before .before .before .before .before .before .before .args .entry) T S, inr refl, lent-range S (span-of (T .view) (c .before .before .before .before .before .before .before .before .before .before .pre .1 .here) refl .under) (c .before .end .ensures (T .view)), omega arith)
+    (lent-table (c .before .before .before .before .before .before .before .before .before .before .args .entry) T S, inr refl, lent-range S (span-of (T .view) (c .before .before .before .before .before .before .before .before .before .before .pre .1 .here) refl .under) (c .before .end .ensures (T .view)), omega arith, let m = c .before .before .before .before .before .before .before .before .before .before .pre .1 .here .2 in omega arith)
 
 clauses32-requires : tie.Need-clauses32-requires
 clauses32-requires c κs = let f = c .before .before .before .before .before .before .before .before .before .signers .ensures .few in
@@ -42,7 +45,13 @@ returns c = let E = c .before .before .before .before .before .before .before .b
     added-most (omega arith)
     (added-join (added-by (λ T. table-of T) (λ T. refl) (c .before .before .before .before .before .before .before .before .before .before .before .before .signers .ensures))
     (added-join
-    (added-by (λ T. lent-table (c .before .before .before .before .before .before .before .before .before .before .before .before .before .before .before .before .before .args .entry) T (c .before .before .before .before .before .before .before .before .before .statements .ensures (T .view)))
+    (added-by
+    (λ T.
+    let W = T .view in
+    let e = c .before .before .before .before .before .before .before .before .before .before .before .before .before .before .before .before .before .args .entry in
+    let d = c .before .before .before .before .before .before .before .before .end .ensures W in
+    let a = c .before .before .before .before .before .before .before .before .before .before .before .before .before .before .first-statement .ensures W .after in
+    record { seen = lent-table e T (c .before .before .before .before .before .before .before .before .before .statements .ensures W); entries = entryOf (treeOf W); held = λ i l h. entry-holds W (E .here) (E .low) (E .is W) i (omega arith) (omega arith) })
     (λ T. let W = T .view in body-32 W (E .here) (E .low) (E .is W) (c .before .before .before .before .before .before .before .before .before .before .before .before .before .before .first-statement .ensures W) (c .before .before .before .before .before .before .before .before .end .ensures W))
     (c .before .before .before .before .before .before .words .ensures))
     (c .before .before .clauses32 .ensures)))

@@ -1,11 +1,11 @@
 -- `let_names` meets its contract: three questions, one after the other.
 use borrow.Author.Needs.{needs}
 use native.Mathlib.Omega.{arith}
-use mathlib.Core.Path.{refl}
 use Rattle.rules.specs.Sweep.{has}
 use Rattle.rules.specs.Tree.{«let»}
-use Rattle.records.proofs.Laws.{asked, asked-at, added-by, added-as, added-join}
+use Rattle.records.proofs.Laws.{asked, asked-at, added-as, added-join}
 use Rattle.nodes.specs.Shown.{treeOf}
+use Rattle.nodes.proofs.Entries.{held-in}
 use Rattle.nodes.proofs.Naming.{naming}
 use Rattle.resolve_lets.proofs.Laws.{lets-at, at-itself}
 use Rattle.resolve_lets.proofs.Lent.{among-in, state-of}
@@ -19,11 +19,12 @@ returns : tie.Need-returns
 returns c =
     let i = c .before .before .before .before .before .before .before .before .before .before .before .before .before .before .before .before .before .pre .1 in
     let s = c .before .before .before .before .before .before .before .before .before .before .before .before .before .before .before .before .before .args .s in
+    let n = c .before .before .before .before .before .before .before .before .before .before .before .before .before .before .before .before .before .args .nodes .now in
     let h = c .before .before .before .before .before .before .before .before .before .before .before .before .before .before .met .result in
-    added-as (λ T. let t = treeOf (T .scope .body .view) in lets-at t (T .scope .body .item) s (has (t .kind s) «let»))
-    (added-join (added-by (λ T. among-in (T .scope .body) i (T .scope .first-lets)) (λ T. refl) (asked-at 27 s h (at-itself 27 s h (c .before .before .before .before .before .before .before .before .before .before .before .before .before .before .met .ensures 27)) (c .before .before .before .before .before .before .before .before .before .before .before .before .emit-hit .ensures)))
-    (added-join (added-by state-of (λ T. refl) (asked 28 _ _ (c .before .before .before .before .before .before .before .before .before .is-state .ensures 28 s) (c .before .before .before .before .before .before .before .emit-if .ensures)))
-    (added-by (λ T. among-in (T .scope .body) i (T .first-params)) (λ T. refl) (asked 29 _ _ (c .before .before .before .before .rule29 .ensures) (c .before .before .emit-if2 .ensures)))))
+    added-as (λ T. let B = T .seen .scope .body in let t = treeOf (B .view) in lets-at t (B .item) s (has (t .kind s) «let»))
+    (added-join (asked-at (λ T. among-in (T .seen .scope .body) i (T .seen .scope .first-lets)) 27 s (λ T. held-in n T i) h (at-itself 27 s h (c .before .before .before .before .before .before .before .before .before .before .before .before .before .before .met .ensures 27)) (c .before .before .before .before .before .before .before .before .before .before .before .before .emit-hit .ensures))
+    (added-join (asked (λ T. state-of (T .seen)) 28 s (λ T. held-in n T i) _ (c .before .before .before .before .before .before .before .before .before .is-state .ensures 28 s) (c .before .before .before .before .before .before .before .emit-if .ensures))
+    (asked (λ T. among-in (T .seen .scope .body) i (T .seen .first-params)) 29 s (λ T. held-in n T i) _ (c .before .before .before .before .rule29 .ensures) (c .before .before .emit-if2 .ensures))))
 
 pub let-names-spec : {M : Type 1} → statement M
 let-names-spec =

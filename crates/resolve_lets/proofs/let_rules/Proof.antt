@@ -6,6 +6,8 @@ use Rattle.rules.specs.Tree.{«let», statement as statements}
 use Rattle.records.proofs.Laws.{added-nothing, added-by}
 use Rattle.records.proofs.Sweep.{run-below-later}
 use Rattle.nodes.specs.Shown.{treeOf}
+use native.Mathlib.Omega.{arith}
+use Rattle.nodes.proofs.Entries.{head-part}
 use Rattle.nodes.proofs.Naming.{naming}
 use Rattle.nodes.proofs.Head.{head-is, head-first}
 use Rattle.places.specs.Places.{firstOf}
@@ -26,14 +28,14 @@ statements-requires : tie.Need-statements-requires
 statements-requires c κs = let H = c .before .before .before .before .before .before .pre .1 in record { view = H .view; here = H .here; first = H .first }
 
 statements-requires-2 : tie.Need-statements-requires-2
-statements-requires-2 c κs = let T = c .before .before .before .before .before .before .before .before .before .pre .0 in let H = c .before .before .before .before .before .before .before .before .before .pre .1 in let W = T .lent .named .view in (body-in T (H .here) (H .positive) (head-is H W) (head-first H W) (c .before .before .statements .ensures W) (c .before .before .before .note-parts .ensures), c .before .before .before .before .before .before .before .before .before .pre .2)
+statements-requires-2 c κs = let T = c .before .before .before .before .before .before .before .before .before .pre .0 in let H = c .before .before .before .before .before .before .before .before .before .pre .1 in let W = T .lent .named .view in (body-in T (H .here) (H .positive) (head-is H W) (head-first H W) (c .before .before .statements .ensures W) (c .before .before .before .note-parts .ensures), c .before .before .before .before .before .before .before .before .before .pre .2, let l = H .here .2 in omega arith)
 
 returns-2 : tie.Need-returns-2
 returns-2 c =
     let H = c .before .before .before .before .before .before .before .before .before .before .before .before .before .before .pre .1 in
     let e = c .before .before .before .before .before .before .before .before .before .before .before .before .before .before .args .entry in
     let g = c .before .before .before .before .before .before .before .before .note-parts .ensures in (
-      added-by (λ T. let W = T .lent .named .view in body-in T (H .here) (H .positive) (head-is H W) (head-first H W) (c .before .before .before .before .before .before .before .statements .ensures W) g)
+      added-by (λ T. let W = T .lent .named .view in let P = c .before .before .before .before .before .before .before .statements .ensures W in head-part H W (body-in T (H .here) (H .positive) (head-is H W) (head-first H W) P g) P)
           (λ T. let W = T .lent .named .view in let S = head-first H W in run-below-later (treeOf W) statements (statementNames (treeOf W) e) e _ (S .after) (S .inside) (S .none))
           (c .before .before .before .before .statements2 .ensures),
       λ T. let W = T .lent .named .view in firsts-off «let» e (c .note-parts2 .ensures W (firstOf (treeOf W) «let» e) (g W (λ w. 0) (T .clean))),

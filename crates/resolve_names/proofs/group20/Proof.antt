@@ -2,6 +2,7 @@
 use native.Mathlib.Omega.{arith}
 use borrow.Author.Needs.{needs}
 use mathlib.Core.Path.{refl}
+use mathlib.Core.Logic.{inl}
 use Rattle.rules.specs.Sweep.{has}
 use Rattle.rules.specs.Resolve.{rule20, group20}
 use Rattle.resolve_names.proofs.group20.Statement.{statement}
@@ -9,7 +10,7 @@ use Rattle.resolve_names.proofs.group20.Tie as tie
 
 repeated-requires : tie.Need-repeated-requires
 unfolding has
-repeated-requires c κs = (((omega arith, refl), refl), c .before .before .before .pre .0, c .before .before .before .pre .1, c .before .before .before .pre .2)
+repeated-requires c κs = (((omega arith, refl), refl), c .before .before .before .pre .0, c .before .before .before .pre .1, c .before .before .before .pre .2, inl refl)
 
 returns : tie.Need-returns
 unfolding group20 rule20

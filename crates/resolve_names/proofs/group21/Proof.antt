@@ -2,6 +2,7 @@
 use borrow.Author.Needs.{needs}
 use native.Mathlib.Omega.{arith}
 use mathlib.Core.Path.{refl}
+use mathlib.Core.Logic.{inr}
 use borrow.Author.Tests.{not-true}
 use Rattle.rules.specs.Sweep.{has}
 use Rattle.rules.specs.Vocabulary.{below}
@@ -13,7 +14,7 @@ use Rattle.resolve_names.proofs.group21.Tie as tie
 
 repeated-requires : tie.Need-repeated-requires
 unfolding has
-repeated-requires c κs = (((omega arith, refl), refl), c .before .before .before .before .pre .0, c .before .before .before .before .pre .1, c .before .before .before .before .pre .2)
+repeated-requires c κs = (((omega arith, refl), refl), c .before .before .before .before .pre .0, c .before .before .before .before .pre .1, c .before .before .before .before .pre .2, inr refl)
 
 returns : tie.Need-returns
 unfolding group21 below

@@ -2,17 +2,16 @@
 use borrow.Author.Needs.{needs}
 use native.Mathlib.Omega.{arith}
 use Prim.Native.Nat.{_+_, _-_, _<_, _≤_}
-use mathlib.Core.Path.{refl}
 use mathlib.Core.List.{[], _∷_}
 use Rattle.rules.specs.Tree.{declarations}
-use Rattle.records.proofs.Laws.{asked-at, added-by}
+use Rattle.records.proofs.Laws.{asked-at-or}
 use Rattle.records.proofs.Sweep.{sweep-long}
 use Rattle.nodes.specs.Shown.{View, In, treeOf}
 use Rattle.nodes.proofs.Shapes.{one-in}
 use Rattle.nodes.proofs.Walks.{declarations-on, declaration-moves, none-of}
 use Rattle.nodes.proofs.Steps.{Walk, walk-on, below-starts, below-done}
 use Rattle.resolve_names.specs.Seen.{metRule}
-use Rattle.resolve_names.proofs.Lent.{among-all}
+use Rattle.resolve_names.proofs.Lent.{among-all, no-entry}
 use Rattle.resolve_names.proofs.repeated.Statement.{statement}
 use Rattle.resolve_names.proofs.repeated.Tie as tie
 
@@ -42,7 +41,9 @@ loop-again c =
     let i = d .before .loop .inv in
     let k = d .before .before .before .before .before .before .before .args .code in
     walk-on i
-    (added-by (λ W. among-all W (d .before .before .before .note-names .ensures) (i .sweep .low) (inside d W)) (λ W. refl) (asked-at k (d .before .loop .p + 1) (c .before .before .before .before .before .met .result) (c .before .before .before .before .before .met .ensures k) (c .before .before .before .emit-hit .ensures)))
+    (asked-at-or (λ W. among-all W (d .before .before .before .note-names .ensures) (i .sweep .low) (inside d W)) k (d .before .loop .p + 1)
+    (λ W. no-entry _ k _ W (here d) (i .sweep .low) (d .before .before .before .before .before .before .before .pre .0 .0) (d .before .before .before .before .before .before .before .pre .4))
+    (c .before .before .before .before .before .met .result) (c .before .before .before .before .before .met .ensures k) (c .before .before .before .emit-hit .ensures))
     (moved c)
     (λ W. none-of _ declarations (one-in _ declarations (d .before .before .before .before .before .before .before .pre .0 .1)) (declarations-on W (here d) (i .sweep .low) (c .next-declaration .ensures W)))
 

@@ -10,6 +10,7 @@ use Rattle.records.proofs.Laws.{added-by}
 use Rattle.records.proofs.Sweep.{Sweeping, keep-none, run-below, sweep-long, sweep-on, sweep-starts, swept}
 use Rattle.nodes.specs.Shown.{View, In, treeOf}
 use Rattle.nodes.proofs.Spans.{Span, child-on, span-below}
+use Rattle.nodes.proofs.Steps.{in-tree}
 use Rattle.nodes.proofs.Cursors.{Over, before-last, past-last, stands, still-over, on-to}
 use Rattle.resolve_overloads.specs.Entries.{at23}
 use Rattle.resolve_overloads.specs.Keys.{Chained, Chains}
@@ -20,7 +21,7 @@ use Rattle.resolve_overloads.proofs.entries.Tie as tie
 
 abbrev Inv-loop : tie.InvT-loop
 Inv-loop nodes heads₀ links₀ keys₀ out₀ count to total₀ children₀ heads links keys out total children =
-    Over 0 to children × Span nodes 0 1 to × Sweeping (λ (C : Chained nodes 1 heads₀ links₀ keys₀) i. at23 i (treeOf (C .view))) 1 to 1 out₀ count out total (children .at)
+    Over 0 to children × Span nodes 0 1 to × Sweeping (in-tree (λ (C : Chained nodes 1 heads₀ links₀ keys₀). C .view)) (λ C i. at23 i (treeOf (C .view))) 1 to 1 out₀ count out total (children .at)
     × ((C : Chained nodes 1 heads₀ links₀ keys₀) → Chains (C .view .image) (children .at) heads links keys)
 
 abbrev μ-loop : tie.MeasureT-loop

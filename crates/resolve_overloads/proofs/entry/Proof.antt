@@ -1,10 +1,15 @@
 -- `entry` meets its contract: no Entry, one whose signature was met, or a new one, which is entered.
 use borrow.Author.Needs.{needs}
-use Prim.Native.Nat.{ℕ, _<_, _≤_}
+use native.Mathlib.Omega.{arith}
+use Prim.Native.Nat.{ℕ, _+_, _<_, _≤_}
 use mathlib.Core.Path.{_≡_, sym, _∙_, subst}
+use Rattle.rules.specs.All.{entryOf}
 use Rattle.rules.specs.Resolve.{signature, firstSigned}
-use Rattle.records.proofs.Laws.{added-by, added-nothing}
+use Rattle.records.specs.declared.Hit.the-variants.{At}
+use Rattle.records.proofs.Laws.{asked-at, added-nothing}
 use Rattle.nodes.specs.Shown.{View, treeOf}
+use Rattle.nodes.proofs.Entries.{entry-holds}
+use Rattle.signature.proofs.Reading.{params-from}
 use Rattle.resolve_overloads.specs.Keys.{Chained, Sought}
 use Rattle.resolve_overloads.proofs.Chain.{chains-skip, chains-enter, chains-as}
 use Rattle.resolve_overloads.proofs.Sought.{at-none, at-one, at-other, is-new, not-new, other-not-new}
@@ -32,9 +37,13 @@ found : (c : tie.After-first-signed) (C : Given (c .before .before .before .befo
 unfolding sought
 found c C = c .first-signed .ensures .1 (sought (c .before .before .before .before) C)
 
+-- the Name of an Entry stands in it
+name-stands : (c : tie.Else1) (C : Given (c .before .before .before .before)) → entryOf (treeOf (C .view)) (c .before .before .before .before .args .item + 1) ≡ c .before .before .before .before .args .item
+name-stands c C = let P = c .before .before .before .before .pre in let k = is-entry c (C .view) in let h = params-from (C .view) (P .1) k .1 in entry-holds (C .view) (P .1) (P .2) k _ (omega arith) (omega arith)
+
 returns-2 : tie.Need-returns-2
 returns-2 c = let P = c .before .before .before .before .before .before .before .before .before .before .before .before .before .before .pre in (
-  added-by (λ C. tt) (λ C. sym (at-one (treeOf (C .view)) _ (is-entry (c .before .before .before .before .before .before .before .before .before .before) (C .view)) (found (c .before .before .before .before .before) C) (c .before .before .before .before .if2 .taken))) (c .before .before .emit .ensures),
+  asked-at (λ (C : Given (c .before .before .before .before .before .before .before .before .before .before .before .before .before .before)). C) 23 _ (name-stands (c .before .before .before .before .before .before .before .before .before .before)) (At _) (λ C. at-one (treeOf (C .view)) _ (is-entry (c .before .before .before .before .before .before .before .before .before .before) (C .view)) (found (c .before .before .before .before .before) C) (c .before .before .before .before .if2 .taken)) (c .before .before .emit .ensures),
   λ C. chains-skip (C .view .image) (C .chains) (not-new (C .view) (P .1) (is-entry (c .before .before .before .before .before .before .before .before .before .before) (C .view)) (subst (λ (x : ℕ). x < c .before .before .before .before .before .before .before .before .before .before .before .before .before .before .args .item) (found (c .before .before .before .before .before) C) (c .before .before .before .before .if2 .taken))),
 )
 
@@ -54,4 +63,4 @@ entry-spec =
     tie.close
     (tie.spec
     (λ c κs. search needs) (λ c. (added-nothing (λ C. at-other (treeOf (C .view)) _ (no-entry c (C .view))), λ C. chains-skip (C .view .image) (C .chains) (other-not-new (C .view .image) _ (no-entry c (C .view))))) (λ c κs. let W = c .before .before .before .before .pre .0 .view in record { view = W; here = c .before .before .before .before .pre .1; low = c .before .before .before .before .pre .2; is = is-entry c W })
-    (λ c κs. sought (c .before .before .before) (c .before .before .before .before .before .before .before .before .pre .0)) (λ c. search needs) (λ c. search needs) (λ c. search needs) (λ c. search needs) (λ c κs. search needs) (λ c. search needs) returns-2 (λ c κs. search needs) returns-3)
+    (λ c κs. sought (c .before .before .before) (c .before .before .before .before .before .before .before .before .pre .0)) (λ c. search needs) (λ c. search needs) (λ c. search needs) (λ c. search needs) (λ c. search needs) (λ c κs. search needs) (λ c. search needs) returns-2 (λ c κs. search needs) returns-3)

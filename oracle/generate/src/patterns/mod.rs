@@ -2,12 +2,14 @@
 //! P14, each half (`page`); W, what the page calls tempting and wrong (`tempting`); S, the readings
 //! that docs/RULES.md settles and that no verdict shows, since a verdict ends at the first offence
 //! (`settled`); M, more than one offence of a rule in one item (`several`); F, offences far down a
-//! large image with large span words (`far`). Contracts with what request E3 says of places in them
-//! stand apart (`reasons`).
+//! large image with large span words (`far`); E, which entry a place is in, of request E8 (`entries`).
+//! Contracts with what request E3 says of places in them stand apart (`reasons`).
 //!
 //! A place is named by a mark on its node. A list is written as `25ba 61x`: the code, the mark of
-//! the place, and the mark of the related node where there is one.
+//! the place, and the mark of the related node where there is one. The entry of a record is the one
+//! whose part the marked node is.
 
+mod entries;
 mod far;
 mod page;
 mod reasons;
@@ -15,7 +17,6 @@ mod settled;
 mod several;
 mod tempting;
 
-pub use far::reported;
 pub use page::p2;
 pub use reasons::{Explained, most_reasons, reasons};
 
@@ -30,24 +31,48 @@ pub struct Pattern {
 }
 
 impl Pattern {
-    /// The full list, each record as its three words, with the marks turned into node numbers.
-    pub fn list(&self) -> Vec<[u16; 3]> {
+    /// The full list, each record as its four words, with the marks turned into node numbers.
+    pub fn list(&self) -> Vec<[u16; 4]> {
         self.list.split_whitespace().map(|text| self.record(text)).collect()
     }
 
-    fn record(&self, text: &str) -> [u16; 3] {
+    fn record(&self, text: &str) -> [u16; 4] {
         let (code, marks) = text.split_at(2);
         let place = |mark| self.tree.place(mark).unwrap_or(usize::MAX) as u16;
         let mut places = marks.chars().map(place);
         let mut next = || places.next().unwrap_or(0);
-        [code.parse().unwrap_or(0), next(), next()]
+        let entry = marks.chars().next().map_or(0, |mark| self.entry_with(mark));
+        [code.parse().unwrap_or(0), next(), next(), entry as u16]
     }
+
+    /// The number of the Entry that the marked node is part of, 0 where it is part of none.
+    fn entry_with(&self, mark: char) -> usize {
+        let mut entry = 0;
+        self.tree.for_each(&mut |i, node| {
+            if node.kind == kind::ENTRY && node.place(mark).is_some() {
+                entry = i;
+            }
+        });
+        entry
+    }
+}
+
+/// A pattern with the report that the documents give it, by hand too.
+pub type Reported = (Pattern, &'static str);
+
+fn with_report(name: &'static str, tree: Node, list: &'static str, report: &'static str) -> Reported {
+    (Pattern { name, tree, list }, report)
+}
+
+pub fn reported() -> Vec<Reported> {
+    [far::reported(), entries::reported()].into_iter().flatten().collect()
 }
 
 /// All of them.
 pub fn patterns() -> Vec<Pattern> {
-    let groups = [page::all(), tempting::all(), settled::all(), several::all(), far::all()];
-    groups.into_iter().flatten().collect()
+    let groups = [page::all(), tempting::all(), settled::all(), several::all()];
+    let reported = reported().into_iter().map(|(pattern, _)| pattern);
+    groups.into_iter().flatten().chain(reported).collect()
 }
 
 fn pattern(name: &'static str, items: Vec<Node>, list: &'static str) -> Pattern {

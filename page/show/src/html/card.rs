@@ -5,7 +5,7 @@ use super::prose;
 use super::view::{Group, Item, View};
 use crate::fault::counted;
 use crate::region::Region;
-use crate::{Fault, Mark, about, escape};
+use crate::{Fault, Mark, about, entries, escape};
 use words::Entry;
 
 /// All cards, by entry; nothing where there is no fault.
@@ -24,7 +24,7 @@ pub fn section(view: &View) -> String {
 fn contents(view: &View) -> String {
     let row = |(i, group): (usize, &Group)| {
         let count = counted(group.items.len());
-        let place = place_of(group).map_or(String::new(), |place| format!(", {place}"));
+        let place = place_of(view, group).map_or(String::new(), |place| format!(", {place}"));
         format!("<li><a href=\"#group-{}\">{}</a>{place}: {count}</li>", i + 1, title(group))
     };
     let rows: String = view.groups.iter().enumerate().map(row).collect();
@@ -35,20 +35,19 @@ fn contents(view: &View) -> String {
 }
 
 fn title(group: &Group) -> String {
-    match &group.name {
-        Some(name) => format!("Entry <code>{}</code>", escape::html(name)),
+    match &group.entry {
+        Some(entry) => format!("Entry <code>{}</code>", escape::html(&entry.name)),
         None => "Outside of the entries".to_string(),
     }
 }
 
 /// Where an entry stands: entries can have the same name.
-fn place_of(group: &Group) -> Option<String> {
-    let node = group.entry.map(|node| format!("node {node}"));
-    group.place.as_ref().map(|region| format!("line {}", region.start.0)).or(node)
+fn place_of(view: &View, group: &Group) -> Option<String> {
+    group.entry.as_ref().map(|entry| entries::place(entry, view.source.as_ref()))
 }
 
 fn group(view: &View, number: usize, group: &Group) -> String {
-    let place = match (&group.place, place_of(group)) {
+    let place = match (&group.place, place_of(view, group)) {
         (Some(region), Some(place)) => {
             format!(" <a class=\"at\" href=\"#line-{}\">{place}</a>", region.start.0)
         }

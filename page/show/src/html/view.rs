@@ -1,9 +1,8 @@
 //! What the page shows, put in order: faults by entry, numbered as they stand on the page.
 
 use crate::region::Region;
-use crate::{Fault, Source, Subject, faults};
-use form::Tree;
-use isonkaypu::{Report, Span};
+use crate::{Fault, Source, Subject, by_entry, faults};
+use isonkaypu::{Entry, Report};
 
 /// A fault with its number on the page and its places in the source.
 pub struct Item {
@@ -26,8 +25,7 @@ impl Item {
 
 /// The faults of one entry, or of the contract outside of its entries.
 pub struct Group {
-    pub entry: Option<usize>,
-    pub name: Option<String>,
+    pub entry: Option<Entry>,
     pub place: Option<Region>,
     pub items: Vec<Item>,
 }
@@ -55,32 +53,25 @@ impl<'a> View<'a> {
     }
 }
 
-/// The contract's own faults first, then the entries, each from top to bottom; faults of one place in
-/// the list's order.
+/// The faults by entry, each from top to bottom; faults of one place in the list's order.
 fn groups(report: &Report, source: Option<&Source>) -> Vec<Group> {
-    let tree = report.tree();
-    let entry_of = |fault: &Fault| tree.as_ref().and_then(|tree| tree.entry_of(fault.here.node));
-    let mut sorted: Vec<_> = faults(report).into_iter().map(|fault| (entry_of(&fault), fault)).collect();
-    sorted.sort_by_key(|(entry, fault)| (*entry, fault.here.node));
-    let mut groups: Vec<Group> = Vec::new();
-    let mut seen = Vec::new();
-    for (i, (entry, fault)) in sorted.into_iter().enumerate() {
-        if groups.last().is_none_or(|group| group.entry != entry) {
-            groups.push(group(entry, &fault, tree.as_ref(), source));
-        }
+    let faults = faults(report);
+    let (mut number, mut seen) = (0, Vec::new());
+    let mut numbered = |fault: &Fault| {
         let first = !seen.contains(&fault.code);
         seen.extend(first.then_some(fault.code));
-        if let Some(group) = groups.last_mut() {
-            group.items.push(item(i + 1, fault, first, source));
-        }
+        number += 1;
+        item(number, fault.clone(), first, source)
+    };
+    let mut groups = Vec::new();
+    for group in by_entry(&faults) {
+        let mut inside: Vec<&Fault> = group.faults.iter().map(|i| &faults[*i]).collect();
+        inside.sort_by_key(|fault| fault.here.node);
+        let place = group.entry.and_then(|entry| Region::of(source, entry.place.span));
+        let items = inside.into_iter().map(&mut numbered).collect();
+        groups.push(Group { entry: group.entry.cloned(), place, items });
     }
     groups
-}
-
-fn group(entry: Option<usize>, fault: &Fault, tree: Option<&Tree>, source: Option<&Source>) -> Group {
-    let node = tree.zip(entry).and_then(|(tree, entry)| tree.nodes.get(entry));
-    let place = node.and_then(|node| Region::of(source, Span { start: node.from, end: node.to }));
-    Group { entry, name: fault.entry.clone(), place, items: Vec::new() }
 }
 
 fn item(number: usize, fault: Fault, first: bool, source: Option<&Source>) -> Item {

@@ -13,7 +13,8 @@ pub fn fingerprints(subject: &Subject, faults: &[Fault]) -> Vec<Value> {
     let mut seen: Vec<[String; 3]> = Vec::new();
     let mut one = |(i, fault): (usize, &Fault)| {
         let name = offences.get(i).and_then(|offence| offence.name.clone()).unwrap_or_default();
-        let known_by = [fault.code.to_string(), fault.entry.clone().unwrap_or_default(), name];
+        let entry = fault.entry.as_ref().map_or(String::new(), |entry| entry.name.clone());
+        let known_by = [fault.code.to_string(), entry, name];
         let before = seen.iter().filter(|other| **other == known_by).count().to_string();
         let [code, entry, name] = &known_by;
         let print = of(&[code, &contract, entry, name, &before]);

@@ -2,11 +2,12 @@
 //! names and node numbers.
 
 use super::{rules, source};
+use crate::blanks::text;
 use crate::json::value::{Value, list, object};
 use crate::region::Region;
 use crate::{Mark, Source, Subject, escape};
 use form::Tree;
-use isonkaypu::Span;
+use isonkaypu::{Entry, Span};
 
 /// What places are made from.
 pub struct Places<'a> {
@@ -49,23 +50,21 @@ impl<'a> Places<'a> {
         object([("artifactLocation", artifact)]).with("region", region.map(of_region))
     }
 
-    /// The entry that the node stands in, else the contract.
+    /// The entry that the node stands in, with its node, which tells entries of one name apart; else the contract.
     fn logical(&self, node: usize) -> Value {
         let tree = self.tree.as_ref();
-        let entry = tree.and_then(|tree| tree.entry_of(node));
-        let contract = tree.map_or(String::new(), |tree| name_of(tree, 0));
-        let (name, kind) = match tree.zip(entry) {
-            Some((tree, entry)) => (format!("{contract}.{}", name_of(tree, entry)), "function"),
-            None => (contract, "type"),
+        // the first child of a Contract is its Name
+        let contract = tree.map_or(String::new(), |tree| text(tree, 1));
+        let Some(entry) = tree.and_then(|tree| Entry::around(tree, node)) else {
+            return logical(&contract, contract.clone(), "type");
         };
-        object([("fullyQualifiedName", name.into()), ("kind", kind.into())])
+        let node = object([("node", entry.place.node.into())]);
+        logical(&entry.name, format!("{contract}.{}", entry.name), "function").with("properties", Some(node))
     }
 }
 
-/// The Name that is the first child of a Contract or an Entry.
-fn name_of(tree: &Tree, node: usize) -> String {
-    let name = tree.nodes.get(node + 1).map_or(&b""[..], |name| name.text);
-    String::from_utf8_lossy(name).into_owned()
+fn logical(name: &str, whole_name: String, kind: &'static str) -> Value {
+    object([("name", name.into()), ("fullyQualifiedName", whole_name.into()), ("kind", kind.into())])
 }
 
 /// The numbers as the image has them, and whether document 01's list has the place.

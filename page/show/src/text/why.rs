@@ -2,7 +2,7 @@
 
 use super::{Page, banner, line, placed};
 use crate::about::made_by;
-use crate::blanks;
+use crate::entries::in_words;
 use crate::facts::Facts;
 use crate::fault::{Fault, Mark, faults};
 use crate::ink::Ink;
@@ -12,8 +12,7 @@ use crate::subject::Subject;
 use crate::terminal::safe;
 use crate::uses::{places, uses};
 use form::Tree;
-use isonkaypu::{Lot, Report};
-use words::Entry;
+use isonkaypu::{Entry, Lot, Report};
 
 /// The answer about a lot of the subject's contract, as text: of one that is not used exactly once its fault,
 /// else where it is used. Of a subject without a report it is what `text` says.
@@ -38,15 +37,15 @@ fn answer(subject: &Subject, report: &Report, tree: &Tree, lot: &Lot, ink: Ink) 
     let body = match faults(report).into_iter().find(of_lot) {
         Some(fault) => {
             let placed = placed(&fault.here, &fault.others, source.as_ref());
-            Page::of(subject, placed.iter(), ink).fault(&fault, &placed)
+            Page::of(subject, source.as_ref(), placed.iter(), ink).fault(&fault, &placed)
         }
         None => {
             let (here, others) = marks(report, tree, lot);
             let placed = placed(&here, &others, source.as_ref());
-            Page::of(subject, placed.iter(), ink).all(&placed)
+            Page::of(subject, source.as_ref(), placed.iter(), ink).all(&placed)
         }
     };
-    opening(subject, tree, lot, ink)
+    opening(subject, (tree, source.as_ref()), lot, ink)
         + &body
         + "\n"
         + &line(&meaning(lot))
@@ -57,7 +56,7 @@ fn answer(subject: &Subject, report: &Report, tree: &Tree, lot: &Lot, ink: Ink) 
 
 /// The place of a lot and those of its uses, in the words of 62, which has a label for each.
 fn marks(report: &Report, tree: &Tree, lot: &Lot) -> (Mark, Vec<Mark>) {
-    let nothing = Entry::default();
+    let nothing = words::Entry::default();
     let words = words::code(words::USES).unwrap_or(&nothing);
     let facts = Facts { tree, lots: &Lots::of(report.image()) };
     let mark = |node: usize, label: &str| Mark::of(tree, node, label.to_string(), false);
@@ -66,14 +65,13 @@ fn marks(report: &Report, tree: &Tree, lot: &Lot) -> (Mark, Vec<Mark>) {
 }
 
 /// "2 USES  ward.quanta: the lot `part` of entry `issue`, node 86"
-fn opening(subject: &Subject, tree: &Tree, lot: &Lot, ink: Ink) -> String {
+fn opening(subject: &Subject, (tree, source): (&Tree, Option<&Source>), lot: &Lot, ink: Ink) -> String {
     let count = lot.reasons.len();
     let capitals = counted(count).to_uppercase();
     let inked = if count == 1 { ink.good(&capitals) } else { ink.bad(&capitals) };
     let node = lot.place.node;
-    let entry = tree.entry_of(node).map_or(String::new(), |entry| blanks::text(tree, entry + 1));
-    let which =
-        format!("the lot `{}` of entry `{entry}`, node {node}", lot.name.as_deref().unwrap_or_default());
+    let entry = Entry::around(tree, node).map_or(String::new(), |entry| in_words(tree, &entry, source));
+    let which = format!("the lot `{}` of {entry}, node {node}", lot.name.as_deref().unwrap_or_default());
     banner(subject, &format!("{inked}  {}: {which}", safe(subject.label())), ink, || {
         format!("says of {which}: {}", counted(count))
     })

@@ -10,7 +10,7 @@ use Rattle.recording.proofs.tell.answer_differs.Tie as tie
 returns : tie.Need-returns
 returns c = (
   c .differs .ensures .0 ∙ ap (λ (v : Numbers). difference v (c .before .before .before .before .args .answer)) (numbers-are _
-      (c .before .u8-at .ensures .0) refl refl refl),
+      (c .before .u8-at .ensures .0) refl refl refl refl),
   c .differs .ensures .1,
 )
 
