@@ -5,38 +5,35 @@
  * `page/isonkaypu-sys/archive` makes the library; of the C library it needs `memset` and nothing else.
  *
  * What a caller guarantees
- *   - A pointer with a length points to that many elements: bytes of an image, a name or the
- *     authority, 16-bit words of a lent buffer. Where the length is 0 the pointer may be null and
- *     nothing is read or written through it. No other pointer may be null.
+ *   - A pointer with a length points to that many elements: bytes of an image or a name, 16-bit
+ *     words of a lent buffer. Where the length is 0 the pointer may be null and nothing is read or
+ *     written through it. No other pointer may be null.
  *   - What is written (`place`, `from`, `to`, `numbers`, `yes`, `words`, `count`) overlaps neither
- *     what is read (`image`, `name`, `authority`) nor anything else that is written. What is read may
- *     overlap.
+ *     what is read (`image`, `name`) nor anything else that is written. Image and name may overlap.
  *   - Pointers are aligned as their types ask, and no other thread writes to any of this memory, or
  *     reads what is written, while the call runs.
  *   - The thread has ISONKAYPU_STACK bytes of stack left.
  *
  * What a caller need not look after
- *   - Every byte string of every length may be given as an image, and every one as a name or as the
- *     authority. What is no image is refused by number, and so is what is no authority of its entries.
+ *   - Every byte string of every length may be given as an image, and every one as a name. What is
+ *     no image is refused by number.
  *   - Every call ends. It takes no memory but its stack, reads and writes no file, and keeps nothing
  *     from one call to the next: there is no global state, so any number of threads may call at once.
  *
  * The number that a function returns; each has a name below
  *   0         accepted, answered or listed
  *   1 to 8    the image is refused; docs/HELP.md says which fault has which number
- *   9         isonkaypu_list and isonkaypu_four_list only: the buffer is too short
+ *   9         isonkaypu_list only: the buffer is too short
  *   10, 13    isonkaypu_why only: the buffer is too short; no lot stands at the place
- *   15        functions that take `authority` only: its bytes are not one per entry, or one exceeds 1
- *   20 to 72  resolve, access, linear and conserve only: the code of the first offence
- *             (resolve 20 to 40, access 50 and 51, linear 60 to 62, conserve 70 to 72)
+ *   20 to 62  resolve, access and linear only: the code of the first offence
+ *             (resolve 20 to 40, access 50 and 51, linear 60 to 62)
  * Let a contract through only where every number is ISONKAYPU_ACCEPTED: later versions may have more.
  *
  * What a call writes
  *   `place`, `from`, `to`, `yes`, `count` and `numbers` are answers: every call writes those it has.
  *   (The `place` of isonkaypu_why is none: it is a number that is given, and no pointer.)
- *   On each of 1 to 10, 13 and 15 they are 0, but for the refusal itself, which stands in `numbers` once
- *   for each pass; and no word of a lent buffer has changed. An image, a name and the authority are never
- *   written to.
+ *   On each of 1 to 10 and 13 they are 0, but for the refusal itself, which stands in `numbers` three
+ *   times; and no word of a lent buffer has changed. An image and a name are never written to.
  */
 #ifndef ISONKAYPU_H
 #define ISONKAYPU_H
@@ -69,10 +66,7 @@
 #define ISONKAYPU_MUST_USE
 #endif
 
-/*
- * The numbers by name, with the condition that documents 01 and 02 have for each in a few words;
- * docs/HELP.md has each at length.
- */
+/* The numbers by name, with document 01's condition in a few words; docs/HELP.md has each at length. */
 enum {
     ISONKAYPU_ACCEPTED = 0, /* accepted, answered or listed */
 
@@ -86,10 +80,9 @@ enum {
     ISONKAYPU_IMAGE_DEPTH = 7, /* a node has over 64 ancestors */
     ISONKAYPU_IMAGE_UNUSED_NAME = 8, /* a name is unused */
 
-    ISONKAYPU_LIST_TOO_SHORT = 9, /* the full lists only: fewer than 4 words per offence */
+    ISONKAYPU_LIST_TOO_SHORT = 9, /* isonkaypu_list only: fewer than 4 words per offence */
     ISONKAYPU_BUFFER_TOO_SHORT = 10, /* isonkaypu_why only: fewer than 2 words per clause and use */
     ISONKAYPU_NO_LOT_THERE = 13, /* isonkaypu_why only: the place is that of no tracked asset */
-    ISONKAYPU_AUTHORITY_BYTES = 15, /* with authority only: the bytes are not one per entry, or one exceeds 1 */
 
     /* offences of resolve */
     ISONKAYPU_FIELD_TWICE = 20, /* field name met before */
@@ -121,12 +114,7 @@ enum {
     /* offences of linear */
     ISONKAYPU_LOT_RENAMED = 60, /* let gives a lot a second name */
     ISONKAYPU_LOT_UNUSED = 61, /* lot without a use */
-    ISONKAYPU_LOT_USED_TWICE = 62, /* lot with more than one use */
-
-    /* offences of conserve */
-    ISONKAYPU_GENESIS_MINTS = 70, /* mint or mint_asset is called in genesis */
-    ISONKAYPU_MINT_WITHOUT_CLAUSE = 71, /* mint or mint_asset is called in an entry without a mints clause */
-    ISONKAYPU_MINTS_WITHOUT_AUTHORITY = 72 /* mints clause of an entry without protected authority */
+    ISONKAYPU_LOT_USED_TWICE = 62 /* lot with more than one use */
 };
 
 #ifdef __cplusplus
@@ -212,42 +200,6 @@ ISONKAYPU_MUST_USE size_t isonkaypu_linear_list(
  */
 ISONKAYPU_MUST_USE size_t isonkaypu_why(
     const uint8_t *image, size_t image_len, size_t place, uint16_t *words, size_t words_len, size_t *count);
-
-/*
- * Supply, a fourth pass: where stock may be made. `authority` is the caller's word on who may: one byte for
- * each Entry of the contract, in their order, 1 where it has protected (signed) authority and 0 where it has
- * none. It is not checked here. The other three passes do not look at it.
- * Entry by entry: with a Mints clause and byte 0, 72 at the first Mints clause; with no Mints clause, 71 at
- * each Call of `mint` or `mint_asset` in its statements. After all entries, 70 at each such Call in genesis.
- * Bytes that are not one per entry, or one of which exceeds 1, give 15, after 1 to 8 and before 9: then all
- * else that is answered is 0 and nothing was written to `words`. A contract without entries takes no bytes.
- *
- * The pass's verdict: as that of the others, with 15.
- */
-ISONKAYPU_MUST_USE size_t isonkaypu_conserve(
-    const uint8_t *image, size_t image_len, const uint8_t *authority, size_t authority_len,
-    uint16_t *place, uint32_t *from, uint32_t *to);
-
-/*
- * The four verdicts: the 12 numbers of isonkaypu_verdicts, then those of conserve. Always writes 16 numbers;
- * 15 is that of all four, with zeros, as a refusal of the image is.
- */
-void isonkaypu_four_verdicts(
-    const uint8_t *image, size_t image_len, const uint8_t *authority, size_t authority_len,
-    size_t numbers[16]);
-
-/*
- * The full list of the four passes: that of isonkaypu_list, and behind it the records of conserve, whose
- * related word is 0. All else is as with isonkaypu_list; 9 counts all of these offences.
- */
-ISONKAYPU_MUST_USE size_t isonkaypu_four_list(
-    const uint8_t *image, size_t image_len, const uint8_t *authority, size_t authority_len,
-    uint16_t *words, size_t words_len, size_t *count);
-
-/* Conserve's own part of it, as the other passes have theirs: never 9, and as many words as fit. */
-ISONKAYPU_MUST_USE size_t isonkaypu_conserve_list(
-    const uint8_t *image, size_t image_len, const uint8_t *authority, size_t authority_len,
-    uint16_t *words, size_t words_len, size_t *count);
 
 #ifdef __cplusplus
 }

@@ -1,9 +1,9 @@
 /*
  * The library as a C or C++ program meets it: every function of isonkaypu.h on document 01's example
  * P2, whose bytes are built here from the page, on P2 with version 2, and on no bytes at all; why a
- * lot is refused on P9 with one use more; the entries of records on two entries of one name; and supply
- * on entries and a genesis that mint. What is expected is what documents 01 and 02 say. All runs on a
- * thread that has no more stack left than the header asks for.
+ * lot is refused on P9 with one use more; and the entries of records on two entries of one name. What
+ * is expected is what documents 01 and 02 say. All runs on a thread that has no more stack left than
+ * the header asks for.
  */
 #define _POSIX_C_SOURCE 200809L
 #include "isonkaypu.h"
@@ -13,10 +13,7 @@
 #include <stdio.h>
 #include <string.h>
 
-enum {
-    LENGTH = 172, P9_LENGTH = 380, NAMESAKES_LENGTH = 303, MINTING_LENGTH = 468, FOUNDING_LENGTH = 131,
-    RECORD = 4, ROOM = 24
-};
+enum { LENGTH = 172, P9_LENGTH = 380, NAMESAKES_LENGTH = 303, RECORD = 4, ROOM = 20 };
 
 /* What lent memory holds before a call, so that what is not written shows. */
 static const uint16_t UNSET = 0xa5a5;
@@ -24,13 +21,6 @@ static const uint16_t UNSET = 0xa5a5;
 typedef size_t Pass(const uint8_t *, size_t, uint16_t *, uint32_t *, uint32_t *);
 typedef size_t Question(const uint8_t *, size_t, const uint8_t *, size_t, uint8_t *);
 typedef size_t List(const uint8_t *, size_t, uint16_t *, size_t, size_t *);
-typedef size_t SupplyList(const uint8_t *, size_t, const uint8_t *, size_t, uint16_t *, size_t, size_t *);
-
-/* One byte for each entry, or what is none of that. */
-typedef struct {
-    const uint8_t *bytes;
-    size_t length;
-} Authority;
 
 static int passed, failed;
 
@@ -119,58 +109,9 @@ static const Node NAMESAKES_NODES[] = {
 static const char *const NAMESAKES_NAMES[] = {"Q_Asset", "c", "e", "x", "y"};
 static const Contract NAMESAKES = {NAMESAKES_NODES, NAMESAKES_NAMES, 16, 5};
 
-/* A genesis that mints; P2's entry with two Mints clauses; and an entry with none that mints for a mint. */
-static const Node MINTING_NODES[] = {
-    {1, 0, 25},  /* 0 Contract */
-    {23, 3, 2},  /* 1   Name c */
-    {2, 0, 4},   /* 2   Asset */
-    {23, 1, 4},  /* 3     Name M */
-    {7, 0, 8},   /* 4   Genesis */
-    {28, 0, 8},  /* 5     Stmt::Expr */
-    {43, 0, 8},  /* 6       Call */
-    {35, 6, 8},  /* 7         Ident mint */
-    {9, 0, 18},  /* 8   Entry */
-    {23, 4, 10}, /* 9     Name e */
-    {10, 0, 14}, /* 10    Param */
-    {23, 8, 12}, /* 11      Name x */
-    {11, 0, 14}, /* 12      Type */
-    {23, 2, 14}, /* 13        Name Q_Asset */
-    {17, 0, 16}, /* 14    Mints */
-    {23, 1, 16}, /* 15      Name M */
-    {17, 0, 18}, /* 16    Mints */
-    {23, 1, 18}, /* 17      Name M */
-    {9, 0, 25},  /* 18  Entry */
-    {23, 5, 20}, /* 19    Name f */
-    {28, 0, 25}, /* 20    Stmt::Expr */
-    {43, 0, 25}, /* 21      Call */
-    {35, 7, 23}, /* 22        Ident mint_asset */
-    {43, 0, 25}, /* 23        Call */
-    {35, 6, 25}, /* 24          Ident mint */
-};
-static const char *const MINTING_NAMES[] = {"M", "Q_Asset", "c", "e", "f", "mint", "mint_asset", "x"};
-static const Contract MINTING = {MINTING_NODES, MINTING_NAMES, 25, 8};
-
-/* A genesis that mints, and no entry. */
-static const Node FOUNDING_NODES[] = {
-    {1, 0, 6},  /* 0 Contract */
-    {23, 1, 2}, /* 1   Name c */
-    {7, 0, 6},  /* 2   Genesis */
-    {28, 0, 6}, /* 3     Stmt::Expr */
-    {43, 0, 6}, /* 4       Call */
-    {35, 2, 6}, /* 5         Ident mint */
-};
-static const char *const FOUNDING_NAMES[] = {"c", "mint"};
-static const Contract FOUNDING = {FOUNDING_NODES, FOUNDING_NAMES, 6, 2};
-
-/* The records of each: code, place, related, entry. */
+/* The records of P2 and of the namesakes: code, place, related, entry. */
 static const uint16_t P2_RECORDS[] = {61, 5, 0, 2};
 static const uint16_t NAMESAKES_RECORDS[] = {23, 11, 5, 10, 50, 3, 0, 0, 61, 7, 0, 4, 61, 13, 0, 10};
-/* of the minting contract by the byte of its first entry: with authority there is no 72 */
-static const uint16_t MINTING_RECORDS[2][5 * RECORD] = {
-    {61, 11, 0, 8, 72, 14, 0, 8, 71, 21, 0, 18, 71, 23, 0, 18, 70, 6, 0, 0},
-    {61, 11, 0, 8, 71, 21, 0, 18, 71, 23, 0, 18, 70, 6, 0, 0},
-};
-static const uint16_t FOUNDING_RECORDS[] = {70, 4, 0, 0};
 
 static uint8_t *put(uint8_t *at, uint32_t value, int bytes)
 {
@@ -261,38 +202,17 @@ static void question(const char *what, Question *ask, const uint8_t *image, size
     expect(what, n == number && yes == answer);
 }
 
-/* A buffer of words, and a count. */
-typedef struct {
-    uint16_t words[ROOM];
-    size_t count;
-} Buffer;
-
-static Buffer unset(void)
-{
-    Buffer buffer;
-    size_t k;
-    for (k = 0; k < ROOM; k++) buffer.words[k] = UNSET;
-    buffer.count = UNSET;
-    return buffer;
-}
-
-/* Whether the count is this one, and the first `written` words, and no others, were written. */
-static int has(const Buffer *buffer, size_t count, size_t written, const uint16_t *expected)
-{
-    size_t k;
-    for (k = 0; k < ROOM; k++) {
-        if (buffer->words[k] != (k < written ? expected[k] : UNSET)) return 0;
-    }
-    return buffer->count == count;
-}
-
 /* A list in `lent` words: what it answers, and that it writes the first `written` of these words. */
 static void list_of(const char *what, List *part, const uint8_t *image, size_t length, size_t lent,
                     size_t number, size_t records, size_t written, const uint16_t *expected)
 {
-    Buffer buffer = unset();
-    size_t n = part(image, length, lent ? buffer.words : NULL, lent, &buffer.count);
-    expect(what, n == number && has(&buffer, records, written, expected));
+    uint16_t words[ROOM];
+    size_t count = UNSET, n, k;
+    int same = 1;
+    for (k = 0; k < ROOM; k++) words[k] = UNSET;
+    n = part(image, length, lent ? words : NULL, lent, &count);
+    for (k = 0; k < ROOM; k++) same = same && words[k] == (k < written ? expected[k] : UNSET);
+    expect(what, n == number && count == records && same);
 }
 
 /* The same of P2's record. */
@@ -307,47 +227,13 @@ static void why(const char *what, const uint8_t *image, size_t length, size_t pl
                 size_t number, size_t written)
 {
     static const uint16_t entries[6] = {11, 0, 16, 13, 19, 17};
-    Buffer buffer = unset();
-    size_t n = isonkaypu_why(image, length, place, lent ? buffer.words : NULL, lent, &buffer.count);
-    expect(what, n == number && has(&buffer, written, written, entries));
-}
-
-/* Conserve's verdict, and the four; it is the last of the numbers. */
-static void supply_verdicts(const char *what, const uint8_t *image, size_t length, Authority authority,
-                            const size_t expected[16])
-{
-    uint16_t p = UNSET;
-    uint32_t f = UNSET, t = UNSET;
-    size_t numbers[17], n, k;
-    n = isonkaypu_conserve(image, length, authority.bytes, authority.length, &p, &f, &t);
-    expect(what, n == expected[12] && p == expected[13] && f == expected[14] && t == expected[15]);
-    for (k = 0; k < 17; k++) numbers[k] = UNSET;
-    isonkaypu_four_verdicts(image, length, authority.bytes, authority.length, numbers);
-    expect(what, memcmp(numbers, expected, 16 * sizeof *numbers) == 0 && numbers[16] == UNSET);
-}
-
-/* As `list_of`, with authority. */
-static void supply_list(const char *what, SupplyList *part, const uint8_t *image, size_t length,
-                        Authority authority, size_t lent, size_t number, size_t records, size_t written,
-                        const uint16_t *expected)
-{
-    Buffer buffer = unset();
-    size_t n = part(image, length, authority.bytes, authority.length, lent ? buffer.words : NULL, lent,
-                    &buffer.count);
-    expect(what, n == number && has(&buffer, records, written, expected));
-}
-
-/* All four functions refuse with this number, whatever is lent. */
-static void supply_refused(const char *what, const uint8_t *image, size_t length, Authority authority,
-                           size_t number)
-{
-    size_t numbers[16] = {0};
-    numbers[0] = numbers[4] = numbers[8] = numbers[12] = number;
-    supply_verdicts(what, image, length, authority, numbers);
-    supply_list(what, isonkaypu_four_list, image, length, authority, ROOM, number, 0, 0, NULL);
-    supply_list(what, isonkaypu_four_list, image, length, authority, 0, number, 0, 0, NULL);
-    supply_list(what, isonkaypu_conserve_list, image, length, authority, ROOM, number, 0, 0, NULL);
-    supply_list(what, isonkaypu_conserve_list, image, length, authority, 0, number, 0, 0, NULL);
+    uint16_t words[ROOM];
+    size_t count = UNSET, n, k;
+    int same = 1;
+    for (k = 0; k < ROOM; k++) words[k] = UNSET;
+    n = isonkaypu_why(image, length, place, lent ? words : NULL, lent, &count);
+    for (k = 0; k < ROOM; k++) same = same && words[k] == (k < written ? entries[k] : UNSET);
+    expect(what, n == number && count == written && same);
 }
 
 /* --- the images --- */
@@ -436,107 +322,9 @@ static void why_p9(void)
     why("why: a clause is no lot", p9, P9_LENGTH, 11, ROOM, 13, 0);
 }
 
-/* The lists of the minting contract, whose records these are; the first is linear's. */
-static void lists_of_minting(const uint8_t *image, Authority authority, size_t records, const uint16_t *all)
-{
-    const size_t length = MINTING_LENGTH, words = RECORD * records, own = words - RECORD;
-    const uint16_t *of_conserve = all + RECORD;
-    SupplyList *four = isonkaypu_four_list, *part = isonkaypu_conserve_list;
-    supply_list("supply: with room to spare", four, image, length, authority, ROOM, 0, records, words, all);
-    supply_list("supply: in an exact buffer", four, image, length, authority, words, 0, records, words, all);
-    supply_list("supply: one word short", four, image, length, authority, words - 1, 9, 0, 0, all);
-    supply_list("supply: room for three passes", four, image, length, authority, RECORD, 9, 0, 0, all);
-    supply_list("supply: in no words", four, image, length, authority, 0, 9, 0, 0, all);
-    supply_list("supply: conserve's part", part, image, length, authority, ROOM, 0, records - 1, own, of_conserve);
-    supply_list("supply: conserve's part one word short", part, image, length, authority, own - 1, 0,
-                records - 1, own - 1, of_conserve);
-    supply_list("supply: conserve's part, counted only", part, image, length, authority, 0, 0, records - 1, 0,
-                of_conserve);
-}
-
-/* The minting contract with each authority: the byte of its first entry alone, which has a Mints clause, decides. */
-static void supply_of_minting(const uint8_t *image)
-{
-    static const uint8_t authorities[4][2] = {{0, 0}, {0, 1}, {1, 0}, {1, 1}};
-    static const size_t expected[2][16] = {
-        {0, 0, 0, 0, 0, 0, 0, 0, 61, 11, 110, 111, 72, 14, 140, 141},
-        {0, 0, 0, 0, 0, 0, 0, 0, 61, 11, 110, 111, 71, 21, 210, 211},
-    };
-    size_t k;
-    for (k = 0; k < 4; k++) {
-        const uint8_t *bytes = authorities[k];
-        const Authority authority = {bytes, 2};
-        supply_verdicts("supply: verdicts", image, MINTING_LENGTH, authority, expected[bytes[0]]);
-        lists_of_minting(image, authority, bytes[0] ? 4 : 5, MINTING_RECORDS[bytes[0]]);
-    }
-    list_of("supply: the list of three passes", isonkaypu_list, image, MINTING_LENGTH, ROOM, 0, 1, RECORD,
-            MINTING_RECORDS[0]);
-}
-
-/* What is no authority of two entries. A count cut to 8 or 16 bits would take the long ones for two. */
-static void no_authority_of_minting(const uint8_t *image)
-{
-    static const uint8_t zeros[65536 + 2] = {0};
-    static const size_t lengths[] = {1, 3, 256 + 2, 65536 + 2};
-    static const uint8_t over[][2] = {{2, 0}, {0, 2}, {1, 255}};
-    Authority authority = {NULL, 0};
-    size_t k;
-    supply_refused("supply: no byte", image, MINTING_LENGTH, authority, 15);
-    for (k = 0; k < sizeof lengths / sizeof *lengths; k++) {
-        authority.bytes = zeros;
-        authority.length = lengths[k];
-        supply_refused("supply: not a byte for each entry", image, MINTING_LENGTH, authority, 15);
-    }
-    for (k = 0; k < sizeof over / sizeof *over; k++) {
-        authority.bytes = over[k];
-        authority.length = 2;
-        supply_refused("supply: a byte over 1", image, MINTING_LENGTH, authority, 15);
-    }
-}
-
-static void supply(void)
-{
-    uint8_t image[MINTING_LENGTH];
-    expect("the minting contract has 468 bytes", build(&MINTING, image) == MINTING_LENGTH);
-    expect("the minting contract is admitted", isonkaypu_refusal(image, MINTING_LENGTH) == 0);
-    supply_of_minting(image);
-    no_authority_of_minting(image);
-}
-
-/* Where there is no entry, no byte is all the authority there is. */
-static void supply_without_entries(void)
-{
-    static const size_t expected[16] = {0, 0, 0, 0, 0, 0, 0, 0, 0, 0, 0, 0, 70, 4, 40, 41};
-    static const uint8_t one = 1;
-    const Authority none = {NULL, 0}, some = {&one, 1};
-    uint8_t image[FOUNDING_LENGTH];
-    expect("the founding contract has 131 bytes", build(&FOUNDING, image) == FOUNDING_LENGTH);
-    expect("the founding contract is admitted", isonkaypu_refusal(image, FOUNDING_LENGTH) == 0);
-    supply_verdicts("no entries: verdicts", image, FOUNDING_LENGTH, none, expected);
-    supply_list("no entries: the list", isonkaypu_four_list, image, FOUNDING_LENGTH, none, ROOM, 0, 1, RECORD,
-                FOUNDING_RECORDS);
-    supply_list("no entries: conserve's part", isonkaypu_conserve_list, image, FOUNDING_LENGTH, none, ROOM, 0, 1,
-                RECORD, FOUNDING_RECORDS);
-    supply_refused("no entries: a byte", image, FOUNDING_LENGTH, some, 15);
-}
-
-/* Supply accepts P2, which mints nothing: its list is that of the three passes. */
-static void supply_of_p2(const uint8_t *p2)
-{
-    static const size_t expected[16] = {0, 0, 0, 0, 0, 0, 0, 0, 61, 5, 50, 51, 0, 0, 0, 0};
-    static const uint8_t none = 0;
-    const Authority authority = {&none, 1};
-    supply_verdicts("P2: four verdicts", p2, LENGTH, authority, expected);
-    supply_list("P2: the list of four passes", isonkaypu_four_list, p2, LENGTH, authority, RECORD, 0, 1, RECORD,
-                P2_RECORDS);
-    supply_list("P2: conserve's part", isonkaypu_conserve_list, p2, LENGTH, authority, RECORD, 0, 0, 0, NULL);
-}
-
 /* Every function refuses the image with this number. */
 static void on_refused(const char *what, const uint8_t *image, size_t length, size_t number)
 {
-    static const uint8_t over = 2;
-    const Authority none = {NULL, 0}, wrong = {&over, 1};
     size_t numbers[12] = {0};
     numbers[0] = numbers[4] = numbers[8] = number;
     expect(what, isonkaypu_refusal(image, length) == number);
@@ -554,8 +342,6 @@ static void on_refused(const char *what, const uint8_t *image, size_t length, si
     list(what, isonkaypu_linear_list, image, length, ROOM, number, 0, 0);
     why(what, image, length, 5, ROOM, number, 0);
     why(what, image, length, SIZE_MAX, 0, number, 0);
-    supply_refused(what, image, length, none, number);
-    supply_refused(what, image, length, wrong, number);
 }
 
 static void run_all(void)
@@ -568,9 +354,6 @@ static void run_all(void)
     entries_of_namesakes();
     why_p2(image);
     why_p9();
-    supply_of_p2(image);
-    supply();
-    supply_without_entries();
     image[0] = 2;
     on_refused("version 2", image, LENGTH, 2);
     on_refused("no bytes", NULL, 0, 1);

@@ -29,14 +29,6 @@ use Rattle.isonkaypu.proofs.isonkaypu_linear_list.Kinds as linear-list-kinds
 use Rattle.isonkaypu.proofs.isonkaypu_linear_list.Reads as linear-list-reads
 use Rattle.isonkaypu.proofs.isonkaypu_why.Kinds as why-kinds
 use Rattle.isonkaypu.proofs.isonkaypu_why.Reads as why-reads
-use Rattle.isonkaypu.proofs.isonkaypu_conserve.Kinds as conserve-kinds
-use Rattle.isonkaypu.proofs.isonkaypu_conserve.Reads as conserve-reads
-use Rattle.isonkaypu.proofs.isonkaypu_four_verdicts.Kinds as four-verdicts-kinds
-use Rattle.isonkaypu.proofs.isonkaypu_four_verdicts.Reads as four-verdicts-reads
-use Rattle.isonkaypu.proofs.isonkaypu_four_list.Kinds as four-list-kinds
-use Rattle.isonkaypu.proofs.isonkaypu_four_list.Reads as four-list-reads
-use Rattle.isonkaypu.proofs.isonkaypu_conserve_list.Kinds as conserve-list-kinds
-use Rattle.isonkaypu.proofs.isonkaypu_conserve_list.Reads as conserve-list-reads
 
 also : {a b : ℕ} {l m : List ℕ} → a ≡ b → l ≡ m → a ∷ l ≡ b ∷ m
 also {a} {b} {l} {m} e f = ap (λ (x : ℕ). x ∷ l) e ∙ ap (λ (x : List ℕ). b ∷ x) f
@@ -87,18 +79,3 @@ linear-list-settles κs a x y e f p q = (same p.0.0 q.0.0, also (same p.0.1 q.0.
 -- count and words
 pub why-settles : SettlesBoth why-kinds.ps why-kinds.r why-reads.Learnt (λ κs e. e.1.1.1.0.now ∷ e.1.1.0.now)
 why-settles κs a x y e f p q = (same p.0.0 q.0.0, also (same p.0.1 q.0.1) (same p.1 q.1))
-
--- place and span words, behind the bytes
-pub conserve-settles : SettlesBoth conserve-kinds.ps conserve-kinds.r conserve-reads.Learnt (λ κs e. e.1.1.0.now ∷ e.1.1.1.0.now ∷ e.1.1.1.1.0.now ∷ [])
-conserve-settles κs a x y e f p q = (same p.0 q.0, also (same p.1 q.1) (also (same p.2 q.2) (also (same p.3 q.3) refl)))
-
-pub four-verdicts-settles : SettlesBoth four-verdicts-kinds.ps four-verdicts-kinds.r four-verdicts-reads.Learnt (λ κs e. e.1.1.0.now)
-four-verdicts-settles κs a x y e f p q = (refl, same p q)
-
--- count and words, behind the bytes
-pub four-list-settles : SettlesBoth four-list-kinds.ps four-list-kinds.r four-list-reads.Learnt (λ κs e. e.1.1.1.0.now ∷ e.1.1.0.now)
-four-list-settles κs a x y e f p q = (same p.0.0 q.0.0, also (same p.0.1 q.0.1) (same p.1 q.1))
-
--- count and words, behind the bytes
-pub conserve-list-settles : SettlesBoth conserve-list-kinds.ps conserve-list-kinds.r conserve-list-reads.Learnt (λ κs e. e.1.1.1.0.now ∷ e.1.1.0.now)
-conserve-list-settles κs a x y e f p q = (same p.0.0 q.0.0, also (same p.0.1 q.0.1) (same p.1 q.1))

@@ -1,4 +1,4 @@
-// The face of typeck and of why for C and Rust, in plain numbers. A refused image answers its number, 1 to 8, and zeros; so do bytes that are not one per entry, or exceed 1, with 15.
+// The face of typeck and of why for C and Rust, in plain numbers. A refused image answers its number, 1 to 8, and zeros.
 ghost use Rattle.std.specs.Prelude.{◌≡◌, [], ◌∷◌, ◌++◌, ◌+◌, ◌≤◌, length};
 ghost use Rattle.std.proofs.lemmas.List.Edits.{sets};
 ghost use Rattle.image.specs.Admit.{refusal};
@@ -6,17 +6,14 @@ ghost use Rattle.rules.specs.Model.{is_state, is_declared_asset, is_known_asset}
 ghost use Rattle.rules.specs.Resolve.{resolve};
 ghost use Rattle.rules.specs.Access.{access};
 ghost use Rattle.rules.specs.Linear.{linear};
-ghost use Rattle.rules.specs.Conserve.{conserve};
-ghost use Rattle.rules.specs.Asked.Asked.{four};
-ghost use Rattle.rules.specs.Answers.{pass_answer_for, ask, list_answer_for, list_buffer_for};
-ghost use Rattle.rules.specs.Three.{pass_answer, list_answer, list_buffer};
+ghost use Rattle.rules.specs.Answers.{pass_answer, ask, list_answer, list_buffer};
 ghost use Rattle.records.specs.Words.{old, new};
 ghost use Rattle.reasons.specs.Answer.{why_answer, why_buffer};
 ghost use Rattle.why.specs.Face.{explained_by};
-ghost use Rattle.typeck.specs.Face.{answer_of, numbered, listing_of, part_answer, part_answer_for, part_words, part_words_for};
+ghost use Rattle.typeck.specs.Face.{answer_of, numbered, listing_of, part_answer, part_words};
 ghost use Rattle.isonkaypu.specs.Plain.{Gives, row, Says, Tells, Counts};
 
-use typeck::{Answers, Listed, Reply, Verdict};
+use typeck::{Listed, Reply, Verdict};
 use why::Explained;
 
 // The number of the image's refusal, 0 where it is admitted.
@@ -98,8 +95,8 @@ pub extern "C" fn isonkaypu_linear(
 }
 
 // Four numbers at their place in the row: number, place, span words.
-fn store(numbers: &mut [usize], at: usize, number: usize, place: usize, from: usize, to: usize)
-    requires { at + 4 ≤ length numbers.old }
+fn store(numbers: &mut [usize; 12], at: usize, number: usize, place: usize, from: usize, to: usize)
+    requires { at + 4 ≤ 12 }
     ensures { new numbers ≡ sets (old numbers) at (number ∷ place ∷ from ∷ to ∷ []) }
 {
     numbers[at] = number;
@@ -109,8 +106,8 @@ fn store(numbers: &mut [usize], at: usize, number: usize, place: usize, from: us
 }
 
 // A verdict's four numbers.
-fn note(v: Verdict, numbers: &mut [usize], at: usize)
-    requires { at + 4 ≤ length numbers.old }
+fn note(v: Verdict, numbers: &mut [usize; 12], at: usize)
+    requires { at + 4 ≤ 12 }
     ensures { new numbers ≡ sets (old numbers) at (row (answer_of v)) }
 {
     match v {
@@ -132,25 +129,18 @@ fn note(v: Verdict, numbers: &mut [usize], at: usize)
     }
 }
 
-// The verdicts of resolve, access and linear, a row of four numbers each.
-fn note_three(answers: Answers, numbers: &mut [usize])
-    requires { 12 ≤ length numbers.old }
-    ensures { new numbers ≡ sets (old numbers) 0 (row (answer_of answers.resolve) ++ row (answer_of answers.access) ++ row (answer_of answers.linear)) }
+// All verdicts with one admission: number, place and span words of resolve, then of access, then of linear.
+#[unsafe(no_mangle)]
+pub extern "C" fn isonkaypu_verdicts(image: &[u8], numbers: &mut [usize; 12])
+    ensures { new numbers ≡ sets (old numbers) 0 (row (pass_answer resolve (old image)) ++ row (pass_answer access (old image)) ++ row (pass_answer linear (old image))) }
 {
+    let answers = typeck::verdicts(image);
     let resolve = answers.resolve;
     let access = answers.access;
     let linear = answers.linear;
     note(resolve, numbers, 0);
     note(access, numbers, 4);
     note(linear, numbers, 8);
-}
-
-// All verdicts with one admission: number, place and span words of resolve, then of access, then of linear.
-#[unsafe(no_mangle)]
-pub extern "C" fn isonkaypu_verdicts(image: &[u8], numbers: &mut [usize; 12])
-    ensures { new numbers ≡ sets (old numbers) 0 (row (pass_answer resolve (old image)) ++ row (pass_answer access (old image)) ++ row (pass_answer linear (old image))) }
-{
-    note_three(typeck::verdicts(image), numbers);
 }
 
 // A reply's number, and 1 for yes, 0 for no.
@@ -276,56 +266,4 @@ pub extern "C" fn isonkaypu_why(
     ensures { Counts (why_answer (old image) place (length (old words))) result (new count) × (new words ≡ why_buffer (old image) place (old words)) }
 {
     explain(why::why(image, place, words), count)
-}
-
-// The verdict of the conserve pass, where a byte per entry is lent: 0 accepted, 1 to 8 the image's refusal, 15 that of the bytes, else the code.
-#[unsafe(no_mangle)]
-pub extern "C" fn isonkaypu_conserve(
-    image: &[u8],
-    authority: &[u8],
-    place: &mut u16,
-    from: &mut u32,
-    to: &mut u32,
-) -> usize
-    ensures { Gives (pass_answer_for (four (old authority)) (conserve (old authority)) (old image)) result (new place) (new from) (new to) }
-{
-    give(typeck::conserve(image, authority), place, from, to)
-}
-
-// All four verdicts with one admission: the rows of resolve, access and linear, then that of conserve.
-#[unsafe(no_mangle)]
-pub extern "C" fn isonkaypu_four_verdicts(image: &[u8], authority: &[u8], numbers: &mut [usize; 16])
-    ensures { new numbers ≡ sets (old numbers) 0 (row (pass_answer_for (four (old authority)) resolve (old image)) ++ row (pass_answer_for (four (old authority)) access (old image)) ++ row (pass_answer_for (four (old authority)) linear (old image)) ++ row (pass_answer_for (four (old authority)) (conserve (old authority)) (old image))) }
-{
-    let answers = typeck::four_verdicts(image, authority);
-    let three = answers.three;
-    let conserve = answers.conserve;
-    note_three(three, numbers);
-    note(conserve, numbers, 12);
-}
-
-// The full list of all four passes, where a byte per entry is lent.
-#[unsafe(no_mangle)]
-pub extern "C" fn isonkaypu_four_list(
-    image: &[u8],
-    authority: &[u8],
-    words: &mut [u16],
-    count: &mut usize,
-) -> usize
-    ensures { Tells (list_answer_for (four (old authority)) (old image) (length (old words))) result (new count) × (new words ≡ list_buffer_for (four (old authority)) (old image) (old words)) }
-{
-    tell(typeck::four_list(image, authority, words), count)
-}
-
-// The conserve pass's part of that list.
-#[unsafe(no_mangle)]
-pub extern "C" fn isonkaypu_conserve_list(
-    image: &[u8],
-    authority: &[u8],
-    words: &mut [u16],
-    count: &mut usize,
-) -> usize
-    ensures { Tells (part_answer_for (four (old authority)) (conserve (old authority)) (old image)) result (new count) × (new words ≡ part_words_for (four (old authority)) (conserve (old authority)) (old image) (old words)) }
-{
-    tell(typeck::conserve_list(image, authority, words), count)
 }

@@ -8,14 +8,21 @@ use Rattle.rules.specs.Vocabulary.{Rec}
 use Rattle.rules.specs.Linear.{marks, uses, linear_entry}
 use Rattle.records.specs.Words.{Lent, old, new}
 use Rattle.records.specs.Records.{Entered, on}
-use Rattle.nodes.specs.Shown.{In, tree_of}
+use Rattle.nodes.specs.Shown.{View, In, tree_of}
 use Rattle.nodes.specs.Marks.{Marks}
-pub use Rattle.names.specs.Spelled.{LookedWords}
+use Rattle.names.specs.declared.Words.{Words as AllWords}
+use Rattle.names.specs.Spelled.{WordsOf}
 use Rattle.places.specs.Places.{Places}
 use Rattle.linear_occurrences.specs.Counted.{is_reader, Clear}
 use Rattle.linear_parts.specs.declared.Words.{Words}
 use Rattle.linear_parts.specs.Parts.{KnownWords, rows_of, first_row, last_row}
 use Rattle.linear_rows.specs.Tallies.{Tallied, Blank}
+
+-- what the pass is lent: the nodes of an admitted image, and the numbers of the words that the rules mention
+pub record LookedWords (nodes : List ℕ) (words : AllWords) : Type 0 where
+  pub view : View nodes 0
+  pub root : In nodes 0 0
+  pub words_are : WordsOf view.image words
 
 -- the marks and the counted occurrences of row r of the entry e; none where it has no such row
 abbrev pub row_marks : Tree → ℕ → ℕ → List ℕ

@@ -24,7 +24,7 @@ module _ (s : List ℕ) (z : refusal s ≡ 0) where
   pub header-in-order : (k : ℕ) → admission_of (header_refusal s) s ≡ admission.Refused k → ⊥
   header-in-order k e = let n = refused-is (header_refusal s) s k e in n (sym (refused-early s n) ∙ z)
 
-pub code-found : (s : List ℕ) (f : Found) {c p w x y : ℕ} → f.number ≡ c → f.place ≡ p → 16 ≤ c → w ≡ p → x ≡ span_from s w → y ≡ span_to s w → answer.Refused c p x y ≡ verdict_of (answered s f)
+pub code-found : (s : List ℕ) (f : Found) {c p w x y : ℕ} → f.number ≡ c → f.place ≡ p → 9 ≤ c → w ≡ p → x ≡ span_from s w → y ≡ span_to s w → answer.Refused c p x y ≡ verdict_of (answered s f)
 code-found s f d e h a b g =
-    let k : verdict_of (answered s f) ≡ answer.Refused f.number f.place (span_from s f.place) (span_to s f.place) = simp (ne_eqb f.number 0 (λ z. omega arith), le-ltb f.number 16 (omega arith)) in
+    let k : verdict_of (answered s f) ≡ answer.Refused f.number f.place (span_from s f.place) (span_to s f.place) = simp (ne_eqb f.number 0 (λ z. omega arith), le-ltb f.number 9 (omega arith)) in
     rw (b, g, a, sym d, sym e) (sym k)

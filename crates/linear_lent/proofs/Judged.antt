@@ -18,12 +18,12 @@ use Rattle.rules.specs.Tree.{Tree, tree, entry as entries, param_let}
 use Rattle.rules.specs.Vocabulary.{Rec, rec, only, below}
 use Rattle.rules.specs.Linear.{is_row, place_of, marks, uses, related_use, judged, row_rule, linear_entry, linear}
 use Rattle.rules.specs.Answers as rules
-use Rattle.rules.specs.Asked.Asked.{three}
+use Rattle.rules.specs.Passes as passes
 use Rattle.rules.proofs.Answers.{refusal-most}
+use Rattle.rules.proofs.Passes.{judges-linear}
 use Rattle.records.proofs.Sweep.{run-parts, run-one, run-below}
 use Rattle.passes.specs.declared.Verdict.{Verdict}
 use Rattle.passes.specs.declared.Verdict.TheVariants as answer
-use Rattle.passes.specs.declared.Pass.TheVariants as pass
 use Rattle.typeck.specs.Face.{Judged, verdict_of}
 use Rattle.passes.proofs.Laws.{judged-refused, judged-numbers}
 use Rattle.linear_table.specs.declared.Row.{Row}
@@ -243,7 +243,7 @@ numbers_of s (r ∷ l) = refl
 
 -- What the public form promises
 
-pub found-admitted : {s cells : List ℕ} (ys : List Row) {c : State} → TableOf s cells → length ys ≡ 511 → c ≡ (ran cells ys).0 → 16 ≤ c.found.number → refusal s ≡ 0
+pub found-admitted : {s cells : List ℕ} (ys : List Row) {c : State} → TableOf s cells → length ys ≡ 511 → c ≡ (ran cells ys).0 → 9 ≤ c.found.number → refusal s ≡ 0
 found-admitted {s} ys {c} T l e h = ⊎_elim (λ (z : refusal s ≡ 0). z) refused (eq-or-ne (refusal s) 0)
   where
     refused : (refusal s ≡ 0 → ⊥) → refusal s ≡ 0
@@ -259,7 +259,7 @@ judged-in {s} {cells} ys {zs} {c} {v} T l e d f = ⊎_elim admitted refused (eq-
     admitted z =
         let a = ran-admitted T ys z l in
         record {
-          verdict = judged-numbers three pass.Linear [] s z
+          verdict = judged-numbers passes.linearity s (omega arith) z (judges-linear s z)
               (f ∙ ap (λ (d : State). verdict_of (answered s d.found)) (e ∙ ap (λ (p : State × List Row). p.0) a) ∙ ap (λ (g : Found). verdict_of (answered s g)) (linear-found s (T.cut z)) ∙ numbers_of s (linear (tree s)));
           rows_are = d ∙ ap (λ (p : State × List Row). p.1) a ∙ sym (ap (λ (b : Bool). pick b (replicate 511 blank_row) ys) (eq-eqb (refusal s) 0 z));
         }
@@ -268,8 +268,8 @@ judged-in {s} {cells} ys {zs} {c} {v} T l e d f = ⊎_elim admitted refused (eq-
     refused n =
         let a = ran-refused T ys n in
         let m = refusal-most s in
-        let g : v ≡ answer.Image (refusal s) = f ∙ ap (λ (d : State). verdict_of (answered s d.found)) (e ∙ ap (λ (p : State × List Row). p.0) a) ∙ simp (ne_eqb (refusal s) 0 n, lt-ltb (refusal s) 16 (omega arith)) in
+        let g : v ≡ answer.Image (refusal s) = f ∙ ap (λ (d : State). verdict_of (answered s d.found)) (e ∙ ap (λ (p : State × List Row). p.0) a) ∙ simp (ne_eqb (refusal s) 0 n, lt-ltb (refusal s) 9 (omega arith)) in
         record {
-          verdict = subst (Judged linear s) (sym g) (judged-refused three linear s (refusal s) (sym (admission-no s (refusal s) n)));
+          verdict = subst (Judged linear s) (sym g) (judged-refused linear s (refusal s) (sym (admission-no s (refusal s) n)));
           rows_are = d ∙ ap (λ (p : State × List Row). p.1) a ∙ sym (ap (λ (b : Bool). pick b (replicate 511 blank_row) ys) (ne_eqb (refusal s) 0 n));
         }

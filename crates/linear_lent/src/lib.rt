@@ -31,7 +31,7 @@ fn drive(cells: &[u16], rows: &mut [Row]) -> State
 
 // The verdict that was found.
 fn answer(image: &[u8], c: State) -> Verdict
-    requires { 16 ≤ c.found.number → refusal image.now ≡ 0 }
+    requires { 9 ≤ c.found.number → refusal image.now ≡ 0 }
     ensures { result ≡ verdict_of (answered (old image) c.found) }
 {
     let found = c.found;
@@ -40,7 +40,7 @@ fn answer(image: &[u8], c: State) -> Verdict
     if number == 0 {
         return Verdict::Accepted;
     }
-    if number < 16 {
+    if number < 9 {
         return Verdict::Image(linear_steps::wide(number));
     }
     refused_at(image, number, place)
@@ -48,7 +48,7 @@ fn answer(image: &[u8], c: State) -> Verdict
 
 // A code and its place, with the span words of the place.
 fn refused_at(image: &[u8], code: u16, place: u16) -> Verdict
-    requires { (16 ≤ code) × (refusal image.now ≡ 0) }
+    requires { (9 ≤ code) × (refusal image.now ≡ 0) }
     ensures { (f : Found) → f.number ≡ code → f.place ≡ place → result ≡ verdict_of (answered (old image) f) }
 {
     match Image::read(image) {

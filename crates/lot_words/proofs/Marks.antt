@@ -22,7 +22,7 @@ use Rattle.nodes.proofs.Fall.{not_so}
 use Rattle.nodes.proofs.Parts.{past, few}
 use Rattle.nodes.proofs.Until.{one_end, until-rest}
 use Rattle.places.specs.Places.{first_of}
-use Rattle.places.proofs.Reading.{first_is, first_absent}
+use Rattle.places.proofs.Reading.{first-is, first_absent}
 use Rattle.model.specs.Assets.{Assets, Inside}
 use Rattle.model.proofs.Inner.{inner-one}
 use Rattle.linear_uses.specs.Uses.{on_row, burn_at, burns_on}
@@ -75,7 +75,7 @@ module _ {nodes : List ℕ} {e asset r : ℕ} {clauses : List ℕ} (T : Clauses 
         ⊎_elim
         (λ (z : first_of t burns e (t.text r) ≡ 0). z ∙ sym (unburned t e y (not_so _ (λ b. let c = (tells-is_burned t e y).so b in first_absent t burns e (t.text r) z c.0 (gives-named c.0 c.1)))))
         (λ (n : first_of t burns e (t.text r) ≡ 0 → ⊥).
-        let F = first_is t burns e (t.text r) (omega (arith, n)) in
+        let F = first-is t burns e (t.text r) (omega (arith, n)) in
         let G : IsFirst (GivesMark t e y) (first_of t burns e (t.text r)) = record { is = named-gives _ F.is; none = λ j h g. F.none j h (gives-named j g) } in
         let b = (tells-is_burned t e y).back (_, G.is) in
         one-first t e y _ _ G (its_clause t e y b) ∙ ap (λ (c : Bool). pick c (clause_of t e y) 0) (sym b))
@@ -85,7 +85,7 @@ module _ {nodes : List ℕ} {e asset r : ℕ} {clauses : List ℕ} (T : Clauses 
     clause-few =
         ⊎_elim (λ (z : first_of t burns e (t.text r) ≡ 0). omega arith)
         (λ (n : first_of t burns e (t.text r) ≡ 0 → ⊥).
-        let F = first_is t burns e (t.text r) (omega (arith, n)) in
+        let F = first-is t burns e (t.text r) (omega (arith, n)) in
         let i = F.is.0.inside in
         let p = (past T.view T.here).1 in
         let u = (few T.view).0 in

@@ -39,13 +39,7 @@ pub record WordsOf (s : List ℕ) (r : Words) : Type 0 where
   pub address_is : Numbered s Q_Address r.address
   pub qtov_is : Numbered s QTOV r.qtov
 
--- what a pass is lent: the nodes of an admitted image, and the numbers of the words that the rules mention
-pub record LookedWords (nodes : List ℕ) (words : Words) : Type 0 where
-  pub view : View nodes 0
-  pub root : In nodes 0 0
-  pub words_are : WordsOf view.image words
-
--- and the marks of the state names
+-- what every pass is lent: the nodes of an admitted image, the numbers of the words, and the marks of the state names
 pub record Looked (nodes : List ℕ) (words : Words) (state : List Bool) : Type 0 where
   pub view : View nodes 0
   pub root : In nodes 0 0

@@ -18,13 +18,9 @@ module _ (s : List ℕ) where
       let a = admitted-is (refusal s) s i e in
       record { admitted = a.0; nodes = ap (λ (j : Image). j.nodes) a.1; names = ap (λ (j : Image). j.names) a.1 }
 
-  -- whatever number r it is refused by
-  pub refused-by : (r k : ℕ) → admission_of r s ≡ admission.Refused k → k ≡ r
-  refused-by r k e = number (eqb r 0) e
+  pub refused-number : (k : ℕ) → admission_of (refusal s) s ≡ admission.Refused k → k ≡ refusal s
+  refused-number k e = number (eqb (refusal s) 0) e
     where
-      number : (b : Bool) → pick b (admission.Admitted (record { nodes = node_count s; names = name_count s })) (admission.Refused r) ≡ admission.Refused k → k ≡ r
+      number : (b : Bool) → pick b (admission.Admitted (record { nodes = node_count s; names = name_count s })) (admission.Refused (refusal s)) ≡ admission.Refused k → k ≡ refusal s
       number true f = let z : ◌≡◌ {A = ℕ} 0 1 = cc in absurd (omega arith)
       number false f = cc
-
-  pub refused-number : (k : ℕ) → admission_of (refusal s) s ≡ admission.Refused k → k ≡ refusal s
-  refused-number = refused-by (refusal s)

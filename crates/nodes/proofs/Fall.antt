@@ -1,5 +1,5 @@
 -- The walk down an expression, a node at a time.
-use Prim.Native.Nat.{ℕ, zero, suc, ◌+◌, ◌-◌, ◌<◌, ◌≤◌}
+use Prim.Native.Nat.{ℕ, suc, ◌+◌, ◌-◌, ◌<◌, ◌≤◌}
 use mathlib.Core.Path.{◌≡◌, refl, ap, ◌∙◌, sym}
 use mathlib.Core.Bool.{Bool, true, false, not}
 use mathlib.Core.List.{List}
@@ -21,16 +21,6 @@ first-further p a e l h = let z : e - a ≡ suc (e - suc a) = omega arith in rw 
 pub first-over : (p : ℕ → Bool) (a e : ℕ) → a ≡ e → first p a (e - a) ≡ a
 unfolding first
 first-over p a e q = rw (q, sub_self e)
-
--- past numbers at which the test fails
-pub first_past : (p : ℕ → Bool) (a c e : ℕ) → a ≤ c → c ≤ e → ((i : ℕ) → a ≤ i → i < c → p i ≡ false) → first p a (e - a) ≡ first p c (e - c)
-first_past p a c e l h z = let d : a + (c - a) ≡ c = omega arith in go (c - a) (omega arith) ∙ ap (λ (x : ℕ). first p x (e - x)) d
-  where
-    go : (m : ℕ) → m ≤ c - a → first p a (e - a) ≡ first p (a + m) (e - (a + m))
-    go zero g = let d : a ≡ a + zero = omega arith in ap (λ (x : ℕ). first p x (e - x)) d
-    go (suc m) g =
-        let d : a + m + 1 ≡ a + suc m = omega arith in
-        go m (omega arith) ∙ first-further p (a + m) e (omega arith) (z (a + m) (omega arith) (omega arith)) ∙ ap (λ (x : ℕ). first p x (e - x)) d
 
 -- from r on, the walk from x is still the same
 pub record Falling (ks : List ℕ) (part : List ℕ) (b x e r : ℕ) : Type 0 where

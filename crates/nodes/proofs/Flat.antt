@@ -55,26 +55,19 @@ pub not-assign : (k : ℕ) → has k statement ≡ false → has k assign ≡ fa
 unfolding all_in has
 not-assign k e = not_in statement k assign refl e
 
--- none of these kinds stands below a before r; no statement does
-abbrev pub NoneOf : List ℕ → Tree → ℕ → ℕ → Type 0
-NoneOf ks t a r = (i : ℕ) → a < i → i < r → has (t.kind i) ks ≡ false
-
+-- no statement stands below a before r
 abbrev pub None : Tree → ℕ → ℕ → Type 0
-None t a r = NoneOf statement t a r
-
--- past a node that is of none of these kinds, and those up to q that are left out
-pub none-past : (ks : List ℕ) (t : Tree) {a p q : ℕ} → NoneOf ks t a p → has (t.kind p) ks ≡ false → ((j : ℕ) → p < j → j < q → has (t.kind j) ks ≡ false) → NoneOf ks t a q
-none-past ks t {p = p} n f s j l g =
-    ⊎_elim (λ (d : j < p). n j l d)
-    (λ (d : p ≤ j). ⊎_elim (λ (d : p ≡ j). ap (λ (x : ℕ). has (t.kind x) ks) (sym d) ∙ f) (λ (d : p < j). s j d g) (eq-or-lt_of_le d))
-    (lt-or-ge j p)
+None t a r = (i : ℕ) → a < i → i < r → has (t.kind i) statement ≡ false
 
 pub starts : {part : List ℕ} {b p r to : ℕ} (W : View part b) → p < r → to ≡ (tree_of W).end p → r ≤ to → None (tree_of W) p r → (r < to → has ((tree_of W).kind r) statement ≡ true) → Starts W p r
 starts W l e h n f = record { after = l; inside = omega arith; none = n; is = λ g. f (omega arith) }
 
 -- on to the next child
 pub none-on : {part : List ℕ} {b a p q : ℕ} (W : View part b) → In part b a → 0 < a → a < p → p < (tree_of W).end a → None (tree_of W) a p → has ((tree_of W).kind p) statement ≡ false → q ≡ (tree_of W).end p → None (tree_of W) a q
-none-on W i z l h n f e = none-past statement (tree_of W) n f (λ j d k. no-statement _ (no_part W i z l h j d (omega arith)))
+none-on {a = a} {p = p} W i z l h n f e j g k =
+    ⊎_elim (λ (d : j < p). n j g d)
+    (λ (d : p ≤ j). ⊎_elim (λ (d : p ≡ j). ap (λ (x : ℕ). has ((tree_of W).kind x) statement) (sym d) ∙ f) (λ (d : p < j). no-statement _ (no_part W i z l h j d (omega arith))) (eq-or-lt_of_le d))
+    (lt-or-ge j p)
 
 -- a node of a run of children stands in one of them
 pub cover : {s : List ℕ} {low high mid at : ℕ} → Kids s low high mid at → (i : ℕ) → at ≤ i → i < mid → (k : ℕ) × Kid s low high k mid × (at ≤ k) × (k ≤ i) × (i < end_of s k)

@@ -93,9 +93,9 @@ module _ (t : Tree) (ks : List ℕ) (a : ℕ) (w : List ℕ) where
     named-not n l h N = true≢false (sym ((at-tells v).back (N.0.kind, N.1)) ∙ n v l h)
 
   -- the first is the first, and 0 where there is none
-  pub first_is : 0 < first_of t ks a w → vocabulary.IsFirst (Named t ks a w) (first_of t ks a w)
+  pub first-is : 0 < first_of t ks a w → vocabulary.IsFirst (Named t ks a w) (first_of t ks a w)
   unfolding notes_below
-  first_is l = ⊎_elim (λ h. let e = h.0 in absurd (omega arith)) (λ h. record { is = named-so h.0; none = λ j g N. let b = N.0.after in named-not h.1 b g N }) (first-or (is_named t ks w) (suc a) (omega arith) (t.end a - suc a))
+  first-is l = ⊎_elim (λ h. let e = h.0 in absurd (omega arith)) (λ h. record { is = named-so h.0; none = λ j g N. let b = N.0.after in named-not h.1 b g N }) (first-or (is_named t ks w) (suc a) (omega arith) (t.end a - suc a))
 
   pub first_absent : first_of t ks a w ≡ 0 → (i : ℕ) → Named t ks a w i → ⊥
   unfolding notes_below
@@ -120,7 +120,7 @@ module _ (t : Tree) (ks : List ℕ) (a : ℕ) (w : List ℕ) where
       })
 
   pub first-declares : declares t ks a w ≡ ltb 0 (first_of t ks a w)
-  first-declares = tells-noted (first_of t ks a w) (λ l. (first_is l).is) first_absent
+  first-declares = tells-noted (first_of t ks a w) (λ l. (first-is l).is) first_absent
 
   pub last-declares : declares t ks a w ≡ ltb 0 (last_of t ks a w)
   last-declares = tells-noted (last_of t ks a w) (λ l. (last-is l).is) last-absent
@@ -131,14 +131,14 @@ module _ (t : Tree) (ks : List ℕ) (a : ℕ) (w : List ℕ) where
       one-fact
       (tells_both (tells-declares t ks a w) (tells-not (tells-some_below t ks a (λ l. tells_both (tells-ltb l s) (tells-named t w l)))))
       (record {
-        so = λ e. let g = leb-true s (first_of t ks a w) e in let F = first_is (omega arith) in ((first_of t ks a w, F.is), λ x. let h = x.2.0 in F.none x.0 (omega arith) (x.1, x.2.1));
+        so = λ e. let g = leb-true s (first_of t ks a w) e in let F = first-is (omega arith) in ((first_of t ks a w, F.is), λ x. let h = x.2.0 in F.none x.0 (omega arith) (x.1, x.2.1));
         back = λ d. le-leb s (first_of t ks a w) (go d.0 d.1 (eq-or-ne (first_of t ks a w) 0) (ltb (first_of t ks a w) s) refl);
       })
     where
       go : Declares t ks a w → (((l : ℕ) × Below t ks a l × ((l < s) × (t.text (l + 1) ≡ w))) → ⊥) → (first_of t ks a w ≡ 0) ⊎ (first_of t ks a w ≡ 0 → ⊥) → (b : Bool) → ltb (first_of t ks a w) s ≡ b → s ≤ first_of t ks a w
       go d n (inl q) b e = absurd (first_absent q d.0 d.1)
       go d n (inr q) false e = ltb-false _ _ e
-      go d n (inr q) true e = let N = (first_is (omega (arith, q))).is in absurd (n (first_of t ks a w, N.0, (ltb-true _ _ e, N.1)))
+      go d n (inr q) true e = let N = (first-is (omega (arith, q))).is in absurd (n (first_of t ks a w, N.0, (ltb-true _ _ e, N.1)))
 
   -- a test that only the last of them can pass
   pub last-holds : (q : ℕ → Bool) → 0 < last_of t ks a w → ((i : ℕ) → Below t ks a i → q i ≡ true → vocabulary.IsLast (Named t ks a w) i) → some_below t ks a q ≡ q (last_of t ks a w)
@@ -173,7 +173,7 @@ first-named t ks a i B = go (eq-or-ne (first_of t ks a (t.text (i + 1))) 0)
   where
     go : (first_of t ks a (t.text (i + 1)) ≡ 0) ⊎ (first_of t ks a (t.text (i + 1)) ≡ 0 → ⊥) → first_named t ks a i ≡ first_of t ks a (t.text (i + 1))
     go (inl e) = absurd (first_absent t ks a (t.text (i + 1)) e i (B, refl))
-    go (inr n) = sym (first_back t ks a (tells-named t (t.text (i + 1))) (first_of t ks a (t.text (i + 1))) (first_is t ks a (t.text (i + 1)) (omega (arith, n))))
+    go (inr n) = sym (first_back t ks a (tells-named t (t.text (i + 1))) (first_of t ks a (t.text (i + 1))) (first-is t ks a (t.text (i + 1)) (omega (arith, n))))
 
 -- the tables after taking off
 pub firsts-off : {s : List ℕ} (ks : List ℕ) (a : ℕ) {r : List ℕ} → Places s (λ w. notes_below Off (tree s) ks a w (first_of (tree s) ks a w)) r → Places s (λ w. 0) r

@@ -13,7 +13,7 @@ use Rattle.rules.specs.Vocabulary.{Below, Argument, IsFirst, AllOf, Down, Field,
 use Rattle.rules.specs.Model.{inner}
 use Rattle.rules.specs.Linear.{GivesMark, Mark, Consumes, Use, marks, uses}
 use Rattle.rules.specs.Standing.{Formed}
-use Rattle.rules.proofs.Reflect.{Tells, tells_both, tells-either, tells-not, tells-eqb, tells-ltb, tells-has, tells-also, tells-some_below, tells-some_argument, tells-is_field, tells-at_bottom, first-from, first_is, first-at, first_so}
+use Rattle.rules.proofs.Reflect.{Tells, tells_both, tells-either, tells-not, tells-eqb, tells-ltb, tells-has, tells-also, tells-some_below, tells-some_argument, tells-is_field, tells-at_bottom, first-from, first-is, first-at, first_so}
 use Rattle.rules.proofs.Model.{tells-inner}
 use Rattle.rules.proofs.Linear.{marks-listed, uses-listed}
 use Rattle.rules.proofs.Unique.{all-unique}
@@ -107,7 +107,7 @@ module _ (t : Tree) (e i : ℕ) where
         let v = n.1 in
         let a = first-at (takes t e i) (suc e) (t.end e - suc e) c u (omega arith) ((tells-takes t e i c).back (consumes-taking c f)) in
         let b = first-from (takes t e i) (suc e) (t.end e - suc e) in
-        taking-consumes (consumer_of t e i) f.0 b (omega arith) ((tells-takes t e i (consumer_of t e i)).so (first_is (takes t e i) (suc e) (t.end e - suc e) (omega arith)))
+        taking-consumes (consumer_of t e i) f.0 b (omega arith) ((tells-takes t e i (consumer_of t e i)).so (first-is (takes t e i) (suc e) (t.end e - suc e) (omega arith)))
 
 -- The list
 

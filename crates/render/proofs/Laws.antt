@@ -19,9 +19,7 @@ use Rattle.rules.specs.Spelling.{bytes}
 use Rattle.rules.specs.Resolve.{resolve}
 use Rattle.rules.specs.Access.{access}
 use Rattle.rules.specs.Linear.{linear}
-use Rattle.rules.specs.Asked.Asked.{three}
-use Rattle.rules.specs.Answers.{Answer, span_from, span_to, words, ListReply, list_refused, list_has}
-use Rattle.rules.specs.Three.{pass_answer, list_answer, list_buffer}
+use Rattle.rules.specs.Answers.{Answer, pass_answer, span_from, span_to, words, ListReply, list_refused, list_has, list_answer, list_buffer}
 use Rattle.rules.proofs.Answers.{list-short, list-listed, buffer-listed, buffer-long, laid-written}
 use Rattle.records.proofs.Sweep.{run_none, run-next, run-split}
 use Rattle.typeck.specs.declared.Listed.{Listed}
@@ -96,15 +94,15 @@ module _ (s o w : List ℕ) (count : ℕ) (e : refusal s ≡ 0) (a : list_has co
   many = go (ltb (length o) (4 * length (offences (tree s)))) refl
     where
       go : (t : Bool) → ltb (length o) (4 * length (offences (tree s))) ≡ t → (count ≡ length (offences (tree s))) × (4 * length (offences (tree s)) ≤ length o)
-      go true q = let z : ◌≡◌ {A = ℕ} 0 9 = ap (λ (l : ListReply). l.number) (a ∙ list-short three s (length o) e (ltb-true _ _ q)) in absurd (omega arith)
-      go false q = let l = ltb-false (length o) (4 * length (offences (tree s))) q in (ap (λ (x : ListReply). x.records) (a ∙ list-listed three s (length o) e l), l)
+      go true q = let z : ◌≡◌ {A = ℕ} 0 9 = ap (λ (l : ListReply). l.number) (a ∙ list-short s (length o) e (ltb-true _ _ q)) in absurd (omega arith)
+      go false q = let l = ltb-false (length o) (4 * length (offences (tree s))) q in (ap (λ (x : ListReply). x.records) (a ∙ list-listed s (length o) e l), l)
 
   pub records-fit : (4 * count ≤ length w) × (length w ≡ length o)
   records-fit =
       let m = many in
       let x = m.0 in
       let y = m.1 in
-      let l : length w ≡ length o = ap length b ∙ buffer-long three s o in
+      let l : length w ≡ length o = ap length b ∙ buffer-long s o in
       (omega arith, l)
 
   pub lines-listed : (size : ℕ) → length o ≡ size → bytes "list" ++ (rest (count ∷ []) ++ run (line_at s w) 0 count) ≡ list_lines s (list_answer s size)
@@ -112,7 +110,7 @@ module _ (s o w : List ℕ) (count : ℕ) (e : refusal s ≡ 0) (a : list_has co
       let m = many in
       let at : (i : ℕ) → i < 4 * length (offences (tree s)) → get_or w (4 * 0 + i) 0 ≡ get_or (words (entry_of (tree s)) (offences (tree s))) i 0 =
       λ i g. (let z : 4 * 0 + i ≡ i = omega arith in let l = m.1 in
-      ap (λ (j : ℕ). get_or w j 0) z ∙ ap (λ (v : List ℕ). get_or v i 0) (b ∙ buffer-listed three s o e m.1) ∙ laid-written (entry_of (tree s)) o (offences (tree s)) i g (omega arith)) in
+      ap (λ (j : ℕ). get_or w j 0) z ∙ ap (λ (v : List ℕ). get_or v i 0) (b ∙ buffer-listed s o e m.1) ∙ laid-written (entry_of (tree s)) o (offences (tree s)) i g (omega arith)) in
       ap (λ (t : List ℕ). bytes "list" ++ (rest (count ∷ []) ++ t)) (ap (run (line_at s w) 0) m.0 ∙ lines_from s w (offences (tree s)) 0 at)
       ∙ ap (list_lines s) (a ∙ ap (list_answer s) f)
 

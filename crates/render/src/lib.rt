@@ -1,7 +1,7 @@
 // The report of document 01 as text, written into a lent buffer. What does not fit is not written; all of it is counted.
 ghost use Rattle.std.specs.Prelude.{◌≡◌, ◌+◌, ◌*◌, ◌<◌, ◌≤◌, ◌^◌, length};
 ghost use Rattle.rules.specs.Sweep.{run};
-ghost use Rattle.rules.specs.Three.{list_answer};
+ghost use Rattle.rules.specs.Answers.{list_answer};
 ghost use Rattle.records.specs.Words.{old, new};
 ghost use Rattle.nodes.specs.Shown.{Admitted};
 ghost use Rattle.typeck.specs.Face.{answer_of};

@@ -10,8 +10,7 @@ use Rattle.rules.specs.Resolve.{resolve}
 use Rattle.rules.specs.Access.{access}
 use Rattle.rules.specs.Linear.{linear}
 use Rattle.rules.specs.Model.{is_state, is_declared_asset, is_known_asset}
-use Rattle.rules.specs.Answers.{ask}
-use Rattle.rules.specs.Three.{pass_answer, list_answer, list_buffer}
+use Rattle.rules.specs.Answers.{pass_answer, ask, list_answer, list_buffer}
 use Rattle.typeck.specs.Face.{verdict_of, reply_of, listed_of, part_answer, part_words}
 use Rattle.passes.specs.declared.Verdict.{Verdict}
 use Rattle.passes.specs.declared.Verdict.TheVariants as verdict

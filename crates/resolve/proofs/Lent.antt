@@ -23,7 +23,7 @@ use Rattle.resolve_deployer.specs.Deployed.{DeployerIs}
 use Rattle.resolve.specs.Tables.{LentFirst, CallTables, Called, ResolveTables, first_groups}
 
 module _ {nodes : List ℕ} {mint : ℕ} {state : List Bool} (T : LentFirst nodes mint state) where
-  abbrev pub by-mint : Minting nodes mint
+  abbrev pub by-mint : Minting nodes 0 mint
   by-mint = record { view = T.view; mint_number = T.mint_number }
 
   abbrev pub by_name : State nodes 0 state

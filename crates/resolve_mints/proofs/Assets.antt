@@ -1,6 +1,6 @@
 -- Over one Asset item: a walk that remembers the last one it met; and no 22 where the image has no name `mint_asset`.
 use Prim.Native.Nat.{ℕ, ◌<◌, ◌≤◌}
-use mathlib.Core.Path.{◌≡◌, ap, ◌∙◌, sym}
+use mathlib.Core.Path.{◌≡◌, refl, ap, ◌∙◌, sym}
 use mathlib.Core.Bool.{true, false, true≢false}
 use mathlib.Core.List.Memᴰ
 use mathlib.Core.List.{List, []}
@@ -11,16 +11,16 @@ use Rattle.image.proofs.Decide.{lt-or-ge}
 use Rattle.rules.specs.Sweep.{has}
 use Rattle.rules.specs.Tree.{Tree, asset}
 use Rattle.rules.specs.Vocabulary.{Below}
+use Rattle.rules.specs.Words.{mint_asset}
 use Rattle.rules.specs.Resolve.{many_assets, ManyAssets, mint_calls, group22, Offence22}
 use Rattle.rules.proofs.Reflect.{Tells, finds-nothing, tells_as, tells-some_below, tells-ltb, tells-has}
 use Rattle.rules.proofs.Resolve.{finds22}
 use Rattle.records.proofs.Sweep.{has_one}
 use Rattle.nodes.specs.Shown.{In, tree_of}
 use Rattle.nodes.proofs.Fall.{not_so}
-use Rattle.nodes.proofs.Shapes.{within}
-use Rattle.word_calls.proofs.Absent.{uncalled}
+use Rattle.nodes.proofs.Shapes.{within, first-in}
+use Rattle.names.proofs.Said.{unsaid}
 use Rattle.resolve_mints.specs.Minted.{Minting}
-use Rattle.resolve_mints.proofs.Laws.{by_word}
 
 -- of the nodes from 1 up to p, at most a is an Asset; 0: none is
 pub record One (t : Tree) (a p : ℕ) : Type 0 where
@@ -77,11 +77,15 @@ module _ (t : Tree) (root : t.root ≡ 0) {a p : ℕ} (O : One t a p) where
           let e = O.alone y (omega arith) (omega arith) (Memᴰ.eq_of_singleton C.kind) in
           omega arith
 
-pub no-mints : {nodes : List ℕ} {mint : ℕ} (T : Minting nodes mint) → In nodes 0 0 → mint < 1 → group22 (tree_of T.view) ≡ []
+pub no-mints : {nodes : List ℕ} {mint : ℕ} (T : Minting nodes 0 mint) → In nodes 0 0 → mint < 1 → group22 (tree_of T.view) ≡ []
+unfolding has
 no-mints T root z = finds-nothing (finds22 (tree_of T.view)) (λ r o. never r.place r.related o.1)
   where
     never : (p q : ℕ) → Offence22 (tree_of T.view) p q → ⊥
-    never p q (i, e, M, B, C, I) = uncalled (by_word T) (within T.view root B.after B.inside) (omega arith) p C I
+    never p q (i, e, M, B, (s, S, C), (k, m)) =
+        let W = T.view in
+        let c = within W (within W (within W root B.after B.inside) S.after S.inside) C.after C.inside in
+        unsaid (record { view = W; here = first-in W c 43 (Memᴰ.eq_of_singleton C.kind) (omega arith) refl; carries = inr k }) W mint_asset T.mint_number z (Memᴰ.eq_of_singleton m)
 
 -- the group, where there is over one Asset item, and where there is not
 pub few-22 : (t : Tree) → many_assets t ≡ false → group22 t ≡ []

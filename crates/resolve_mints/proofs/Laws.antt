@@ -1,20 +1,27 @@
--- 22 asks for the Calls of one word.
-use Prim.Native.Nat.{ℕ}
-use mathlib.Core.Path.{◌≡◌, refl}
-use mathlib.Core.Bool.{Bool, true, false}
+-- One Call's part in 22: what its callee says of the rule; and what a scan of an item's statements is lent.
+use Prim.Native.Nat.{ℕ, ◌+◌}
+use mathlib.Core.Path.{◌≡◌, ap, ◌∙◌, sym}
+use mathlib.Core.Bool.{Bool, false}
 use mathlib.Core.List.{List, [], ◌∷◌}
-use Rattle.rules.specs.Sweep.{either, same, has_word}
+use Rattle.rules.specs.Sweep.{same, has_word}
+use Rattle.rules.specs.Tree.{Tree}
 use Rattle.rules.specs.Words.{mint_asset}
-use Rattle.word_calls.specs.Called.{Called}
-use Rattle.resolve_mints.specs.Minted.{Minting}
+use Rattle.rules.specs.Vocabulary.{rec, only}
+use Rattle.rules.specs.Resolve.{rule22}
+use Rattle.records.proofs.Sweep.{asks-here}
+use Rattle.nodes.specs.Shown.{Shown, tree_of}
+use Rattle.nodes.proofs.Names.{either-false}
+use Rattle.nodes.proofs.Fields.{ident-other, ident-so}
+use Rattle.resolve_mints.specs.Minted.{Minting, at22}
 
-pub one_word : (x : List ℕ) → has_word x (mint_asset ∷ []) ≡ either (same x mint_asset) (same x mint_asset)
-unfolding has_word
-one_word x = twice (same x mint_asset)
-  where
-    twice : (a : Bool) → either a false ≡ either a a
-    twice true = refl
-    twice false = refl
+module _ (t : Tree) (p : ℕ) (k : t.kind p ≡ 43) where
+  pub other-22 : (t.kind (p + 1) ≡ 35 → ⊥) → at22 p t ≡ only false (rec 22 p 0)
+  unfolding rule22
+  other-22 n = asks-here (rule22 t) p (rec 22 p 0) false k (ap (λ (b : Bool). only b (rec 22 p 0)) (ident-other t (mint_asset ∷ []) (p + 1) n))
 
-abbrev pub by_word : {nodes : List ℕ} {mint : ℕ} → Minting nodes mint → Called nodes 0 mint mint
-by_word T = record { view = T.view; words = mint_asset ∷ []; first = mint_asset; second = mint_asset; first_is = T.mint_number; second_is = T.mint_number; among = one_word }
+  pub ident-22 : {r : Bool} → t.kind (p + 1) ≡ 35 → r ≡ same (t.text (p + 1)) mint_asset → at22 p t ≡ only r (rec 22 p 0)
+  unfolding rule22 has_word
+  ident-22 {r} i e = asks-here (rule22 t) p (rec 22 p 0) r k (ap (λ (b : Bool). only b (rec 22 p 0)) (ident-so t (mint_asset ∷ []) (p + 1) i ∙ either-false _ ∙ sym e))
+
+abbrev pub lent-minting : {nodes part : List ℕ} {f : ℕ} (item : ℕ) {mint : ℕ} (T : Minting nodes 0 mint) → Shown T.view.image part f ((tree_of T.view).end item) → Minting part f mint
+lent-minting item T S = record { view = record { image = T.view.image; upto = (tree_of T.view).end item; shown = S }; mint_number = T.mint_number }

@@ -2,28 +2,68 @@
 ghost use Rattle.std.specs.Prelude.{◌≡◌, ◌*◌, ◌<◌, ◌^◌};
 ghost use Rattle.rules.specs.Resolve.{many_assets, mint_calls, group22};
 ghost use Rattle.records.specs.Words.{old};
-ghost use Rattle.records.specs.Records.{Adds};
+ghost use Rattle.records.specs.Records.{Adds, Asks};
 ghost use Rattle.nodes.specs.Shown.{View, In, tree_of};
-ghost use Rattle.resolve_mints.specs.Minted.{Minting, item22, minted};
+ghost use Rattle.nodes.specs.Entries.{in_part};
+ghost use Rattle.resolve_mints.specs.Minted.{Minting, at22, item22, minted, swept22};
 
-use nodes::{ASSET, Cursor};
+use nodes::{ASSET, CALL, Cursor, IDENT};
+
+// 22 at a node of an item's statements: a Call of Ident `mint_asset`, which has the number `mint`.
+fn rule22(nodes: &[u8], base: usize, p: usize, mint: usize) -> bool
+    requires { Minting nodes.now base mint × In nodes.now base p }
+    ensures { Asks (minted (at22 p) nodes base mint) 22 p result }
+{
+    if nodes::kind(nodes, base, p) != CALL {
+        return false;
+    }
+    if nodes::kind(nodes, base, p + 1) != IDENT {
+        return false;
+    }
+    names::is_word(mint, nodes, base, p + 1)
+}
+
+// 22 in an item's statements, lent as their own part of the node area; they stand in this entry (0: in none).
+fn calls22(
+    nodes: &[u8],
+    base: usize,
+    entry: usize,
+    mint: usize,
+    out: &mut [u16],
+    count: usize,
+) -> usize
+    requires { Minting nodes.now base mint × (count < 2 ^ 50) × (entry < 2048) }
+    ensures { Adds (in_part entry nodes base (swept22 nodes base mint)) 2048 out count result }
+{
+    let end = base + nodes.len() / 16;
+    let mut total = count;
+    let mut p = base;
+    while p < end {
+        total = records::emit_if(rule22(nodes, base, p, mint), out, total, 22, p, entry);
+        p += 1;
+    }
+    total
+}
 
 // 22 in an item, if it holds statements.
 fn item22(nodes: &[u8], item: usize, mint: usize, out: &mut [u16], count: usize) -> usize
-    requires { Minting nodes.now mint × In nodes.now 0 item × (0 < item) × (count < 2 ^ 50) }
-    ensures { Adds (minted (item22 item) nodes mint) 2048 out count result }
+    requires { Minting nodes.now 0 mint × In nodes.now 0 item × (0 < item) × (count < 2 ^ 50) }
+    ensures { Adds (minted (item22 item) nodes 0 mint) 2048 out count result }
 {
     let kind = nodes::kind(nodes, 0, item);
     if !items::is_bodied(kind) {
         return count;
     }
-    word_calls::in_item(nodes, item, kind, 22, mint, mint, out, count)
+    let first = items::first_statement(nodes, 0, item);
+    let body = items::statements(nodes, 0, item, first);
+    let entry = items::entry_of(kind, item);
+    calls22(body, first, entry, mint, out, count)
 }
 
 // 22: the items in order.
 fn mint_calls(nodes: &[u8], mint: usize, out: &mut [u16], count: usize) -> usize
-    requires { Minting nodes.now mint × In nodes.now 0 0 × (count < 2 ^ 40) }
-    ensures { Adds (minted mint_calls nodes mint) (2048 * 2048) out count result }
+    requires { Minting nodes.now 0 mint × In nodes.now 0 0 × (count < 2 ^ 40) }
+    ensures { Adds (minted mint_calls nodes 0 mint) (2048 * 2048) out count result }
 {
     let end = nodes::end(nodes, 0, 0);
     let mut total = count;
@@ -62,8 +102,8 @@ fn many_assets(nodes: &[u8]) -> bool
 
 // 22; nothing where the image has no name `mint_asset`.
 pub fn group22(nodes: &[u8], mint: usize, out: &mut [u16], count: usize) -> usize
-    requires { Minting nodes.now mint × In nodes.now 0 0 × (count < 2 ^ 40) }
-    ensures { Adds (minted group22 nodes mint) (2048 * 2048) out count result }
+    requires { Minting nodes.now 0 mint × In nodes.now 0 0 × (count < 2 ^ 40) }
+    ensures { Adds (minted group22 nodes 0 mint) (2048 * 2048) out count result }
 {
     if mint < 1 {
         return count;

@@ -25,8 +25,8 @@ abbrev pub among-all : {nodes firsts : List ℕ} {kind p : ℕ} (W : View nodes 
 among-all W f l h = record { view = W; holder = 0; after = l; inside = h; are_first = f W (λ w. 0) (places-none W.image W.shown.admitted) }
 
 -- a field or an event, or nothing is said of it
-pub no_entry : {nodes : List ℕ} (kind code p : ℕ) (W : View nodes 0) → In nodes 0 p → 0 < p → NameFirst kind → (kind ≡ 4) ⊎ (kind ≡ 5) → (at_met code (kind ∷ []) 1 p (tree_of W) 0 ≡ []) ⊎ (entry_of (tree_of W) (p + 1) ≡ 0)
-no_entry kind code p W i z f o =
+pub no-entry : {nodes : List ℕ} (kind code p : ℕ) (W : View nodes 0) → In nodes 0 p → 0 < p → NameFirst kind → (kind ≡ 4) ⊎ (kind ≡ 5) → (at_met code (kind ∷ []) 1 p (tree_of W) 0 ≡ []) ⊎ (entry_of (tree_of W) (p + 1) ≡ 0)
+no-entry kind code p W i z f o =
     keep-or kind _ p
     (λ m.
     let n = name-inside W i (subst NameFirst (sym m) f) in

@@ -16,7 +16,7 @@ use Rattle.rules.specs.Sweep.{some, first, also, either, has, same}
 use Rattle.rules.specs.Tree.{Tree, tree, entry}
 use Rattle.rules.specs.Vocabulary.{rec, only, first_below, named}
 use Rattle.rules.specs.Resolve.{signature, first_signed, rule23}
-use Rattle.rules.proofs.Reflect.{tells-some, tells-also, tells-has, tells-named, tells-same, first_is, first-from, first-at}
+use Rattle.rules.proofs.Reflect.{tells-some, tells-also, tells-has, tells-named, tells-same, first-is, first-from, first-at}
 use Rattle.records.proofs.Sweep.{has_one, has-not, keep_one, keep-none}
 use Rattle.nodes.specs.Shown.{View, In, tree_of}
 use Rattle.nodes.specs.Marks.{Marks, marking}
@@ -69,7 +69,7 @@ module _ {part : List ℕ} {b p : ℕ} (W : View part b) (i : In part b p) (k : 
       let u = below-count W i in
       let e = signed-first (tree_of W) p refl in
       let d = (formed W).root_end in
-      let a = subst (λ (x : ℕ). is_signed (tree_of W) p x ≡ true) (sym e) (first_is (is_signed (tree_of W) p) 1 ((tree_of W).end 0 - 1) (omega arith)) in
+      let a = subst (λ (x : ℕ). is_signed (tree_of W) p x ≡ true) (sym e) (first-is (is_signed (tree_of W) p) 1 ((tree_of W).end 0 - 1) (omega arith)) in
       let c = subst (λ (x : ℕ). 1 ≤ x) (sym e) (first-from (is_signed (tree_of W) p) 1 ((tree_of W).end 0 - 1)) in
       let m = (tells-also {Q = Memᴰ ((tree_of W).kind q) entry} {P = signature (tree_of W) q ≡ signature (tree_of W) p} (signed_as (tree_of W) p) q (tells-has ((tree_of W).kind q) entry) (tells-same (signature (tree_of W) q) (signature (tree_of W) p))).so a in
       record { low = c; there = omega arith; is = Memᴰ.eq_of_singleton m.0; text = m.1 }

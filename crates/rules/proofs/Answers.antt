@@ -3,7 +3,7 @@ use Prim.Native.Nat.{ℕ, zero, suc, ◌+◌, ◌*◌, ◌<◌, ◌≤◌}
 use mathlib.Core.Path.{◌≡◌, refl, ap, ap₂, ◌∙◌, sym, subst}
 use mathlib.Core.Bool.{Bool, true, false}
 use mathlib.Core.List.Memᴰ
-use mathlib.Core.List.{List, [], ◌∷◌, ◌++◌, append-nil, append_assoc, Memᴰ}
+use mathlib.Core.List.{List, [], ◌∷◌, ◌++◌, Memᴰ}
 use mathlib.Core.Logic.{◌⊎◌, inl, inr, ⊎_elim}
 use native.Mathlib.Omega.{arith}
 use borrow.Author.Tests.{ltb-true, ltb-false, lt-ltb, le-ltb, eqb-true, eqb-false, eq-eqb, ne_eqb}
@@ -19,24 +19,18 @@ use Rattle.rules.specs.Vocabulary.{Rec}
 use Rattle.rules.specs.Resolve.{resolve}
 use Rattle.rules.specs.Access.{access}
 use Rattle.rules.specs.Linear.{linear}
-use Rattle.rules.specs.Conserve.{is_one_per_entry, conserve}
-use Rattle.rules.specs.Asked.{Asked, refusal_for, IsRefusedFor, IsAdmittedFor, parts_for}
-use Rattle.rules.specs.Asked.Asked.{three, four}
-use Rattle.rules.specs.All.{offences, offences_for, entry_of}
+use Rattle.rules.specs.All.{offences, entry_of}
 use Rattle.rules.specs.Passes.{PassRules, None, FirstOffence}
-use Rattle.rules.specs.Answers.{IsRefused, IsAdmitted, Answer, image_refused, accepted, refused_at, verdict, pass_answer_for, NameReply, reply_refused, replied, ask, words, laid, ListReply, list_refused, list_has, list_answer_for, list_buffer_for, part_count, part_buffer, part_answer_for, part_words_for, parts_after, InTurn}
+use Rattle.rules.specs.Answers.{IsRefused, IsAdmitted, image_refused, accepted, refused_at, verdict, pass_answer, NameReply, reply_refused, replied, ask, words, laid, ListReply, list_refused, list_has, list_answer, list_buffer, part_count, part_buffer, part_answer, part_words, on_rest, InTurn}
 use Rattle.rules.proofs.Passes.{Judges}
 
--- an image is admitted or refused, and so is what is asked for
-none_or_some : (r : ℕ) → (r ≡ 0) ⊎ (r ≡ 0 → ⊥)
-none_or_some r = go (eqb r 0) refl
+-- an image is admitted or refused
+pub decide : (s : List ℕ) → IsAdmitted s ⊎ IsRefused s
+decide s = go (eqb (refusal s) 0) refl
   where
-    go : (b : Bool) → eqb r 0 ≡ b → (r ≡ 0) ⊎ (r ≡ 0 → ⊥)
-    go true e = inl (eqb-true r 0 e)
-    go false e = inr (eqb-false r 0 e)
-
-pub decide : (a : Asked) (s : List ℕ) → IsAdmittedFor a s ⊎ IsRefusedFor a s
-decide a s = none_or_some (refusal_for a s)
+    go : (b : Bool) → eqb (refusal s) 0 ≡ b → IsAdmitted s ⊎ IsRefused s
+    go true e = inl (eqb-true (refusal s) 0 e)
+    go false e = inr (eqb-false (refusal s) 0 e)
 
 -- the numbers of refusal end at 8
 pick-most : (b : Bool) (x y : ℕ) → x ≤ 8 → y ≤ 8 → pick b x y ≤ 8
@@ -54,59 +48,30 @@ refusal-most s =
     (four-most (names_ok (names_of s) (text_part s) (name_count s)) (tree_ok (nodes_of s) (names_of s) (text_part s) (node_count s) (name_count s)) (depth_ok (nodes_of s) (node_count s)) (used_ok (nodes_of s) (node_count s) (name_count s)) 8 7 6 5 (omega arith) (omega arith) (omega arith) (omega arith))
     (four-most (length_ok s) (version_ok s) (counts_ok s) (layout_ok s (node_count s) (name_count s)) 4 3 2 1 (omega arith) (omega arith) (omega arith) (omega arith))
 
--- where bytes are lent: by the image's number, else by 15 or not at all
-module _ (b s : List ℕ) where
-  pub four-broken : IsRefused s → refusal_for (four b) s ≡ refusal s
-  four-broken n = ap (λ (i : Bool). pick i (pick (is_one_per_entry (tree s) b) 0 15) (refusal s)) (ne_eqb (refusal s) 0 n)
-
-  pub by_bytes : IsAdmitted s → (o : Bool) → is_one_per_entry (tree s) b ≡ o → refusal_for (four b) s ≡ pick o 0 15
-  by_bytes e o q =
-      ap (λ (i : Bool). pick i (pick (is_one_per_entry (tree s) b) 0 15) (refusal s)) (eq-eqb (refusal s) 0 e)
-      ∙ ap (λ (x : Bool). pick x 0 15) q
-
--- no number of refusal is over 15
-pub refusal-under : (a : Asked) (s : List ℕ) → refusal_for a s ≤ 15
-refusal-under three s = let h = refusal-most s in omega arith
-refusal-under (four b) s = go (eqb (refusal s) 0) (is_one_per_entry (tree s) b)
-  where
-    go : (i o : Bool) → pick i (pick o 0 15) (refusal s) ≤ 15
-    go true true = omega arith
-    go true false = omega arith
-    go false o = let h = refusal-most s in omega arith
-
--- what is admitted has an image that is
-pub image-admitted : (a : Asked) (s : List ℕ) → IsAdmittedFor a s → IsAdmitted s
-image-admitted three s e = e
-image-admitted (four b) s e = ⊎_elim (λ z. z) (λ n. absurd (n (sym (four-broken b s n) ∙ e))) (none_or_some (refusal s))
-
 -- A pass
 
-module _ (a : Asked) (pass : Tree → List Rec) (s : List ℕ) where
-  abbrev passes : Bool → Answer
-  passes b = pick b (verdict s (pass (tree s))) (image_refused (refusal_for a s))
+pub pass-refused : (pass : Tree → List Rec) (s : List ℕ) → IsRefused s → pass_answer pass s ≡ image_refused (refusal s)
+unfolding pass_answer
+pass-refused pass s n = ap (λ (b : Bool). pick b (verdict s (pass (tree s))) (image_refused (refusal s))) (ne_eqb (refusal s) 0 n)
 
-  pub pass-refused : IsRefusedFor a s → pass_answer_for a pass s ≡ image_refused (refusal_for a s)
-  unfolding pass_answer_for
-  pass-refused n = ap passes (ne_eqb (refusal_for a s) 0 n)
+pub pass-admitted : (pass : Tree → List Rec) (s : List ℕ) → IsAdmitted s → pass_answer pass s ≡ verdict s (pass (tree s))
+unfolding pass_answer
+pass-admitted pass s e = ap (λ (b : Bool). pick b (verdict s (pass (tree s))) (image_refused (refusal s))) (eq-eqb (refusal s) 0 e)
 
-  pub pass-admitted : IsAdmittedFor a s → pass_answer_for a pass s ≡ verdict s (pass (tree s))
-  unfolding pass_answer_for
-  pass-admitted e = ap passes (eq-eqb (refusal_for a s) 0 e)
-
-module _ (a : Asked) (p : PassRules) (s : List ℕ) (j : IsAdmittedFor a s → Judges a (tree s) p) where
+module _ (p : PassRules) (s : List ℕ) (j : IsAdmitted s → Judges (tree s) p) where
   -- a pass has no offence, or a first one
-  pub decided : IsAdmittedFor a s → None a (tree s) p ⊎ ((r : Rec) × FirstOffence a (tree s) p r)
+  pub decided : IsAdmitted s → None (tree s) p ⊎ ((r : Rec) × FirstOffence (tree s) p r)
   decided e = go (p.part (tree s)) (j e).accepts.0 (j e).has_first
     where
-      go : (l : List Rec) → (l ≡ [] → None a (tree s) p) → ((l ≡ [] → ⊥) → (r : Rec) × FirstOffence a (tree s) p r) → None a (tree s) p ⊎ ((r : Rec) × FirstOffence a (tree s) p r)
+      go : (l : List Rec) → (l ≡ [] → None (tree s) p) → ((l ≡ [] → ⊥) → (r : Rec) × FirstOffence (tree s) p r) → None (tree s) p ⊎ ((r : Rec) × FirstOffence (tree s) p r)
       go [] n f = inl (n refl)
       go (r ∷ l) n f = inr (f (λ z. absurd (Memᴰ.not-nil (subst (λ (m : List Rec). Memᴰ r m) z (Memᴰ.head refl)))))
 
-  pub pass-accepts : IsAdmittedFor a s → None a (tree s) p → pass_answer_for a p.part s ≡ accepted
-  pass-accepts e n = pass-admitted a p.part s e ∙ ap (verdict s) ((j e).accepts.1 n)
+  pub pass-accepts : IsAdmitted s → None (tree s) p → pass_answer p.part s ≡ accepted
+  pass-accepts e n = pass-admitted p.part s e ∙ ap (verdict s) ((j e).accepts.1 n)
 
-  pub pass-refuses : IsAdmittedFor a s → (r : Rec) → FirstOffence a (tree s) p r → pass_answer_for a p.part s ≡ refused_at s r.code r.place
-  pass-refuses e r f = pass-admitted a p.part s e ∙ ap (verdict s) ((j e).refuses r f).1
+  pub pass-refuses : IsAdmitted s → (r : Rec) → FirstOffence (tree s) p r → pass_answer p.part s ≡ refused_at s r.code r.place
+  pass-refuses e r f = pass-admitted p.part s e ∙ ap (verdict s) ((j e).refuses r f).1
 
 -- A question
 
@@ -162,30 +127,26 @@ sets-rest o zero v = refl
 sets-rest [] (suc i) v = sets-nil (suc i) v ∙ sym (sets-nil 0 v)
 sets-rest (y ∷ o) (suc i) v = sets-cons y o i v ∙ ap (λ (l : List ℕ). y ∷ l) (sets-rest o i v)
 
--- parts of the list, one after the other, are the list
-module _ (s : List ℕ) where
-  joined : List (Tree → List Rec) → List Rec
-  joined [] = []
-  joined (p ∷ l) = p (tree s) ++ joined l
+pub in_turn : InTurn
+unfolding offences
+in_turn s o =
+    laid-append w o 0 (resolve t) (access t ++ linear t)
+    ∙ laid-append w (laid w o 0 (resolve t)) (0 + a) (access t) (linear t)
+    ∙ ap (λ (n : ℕ). laid w (laid w (laid w o 0 (resolve t)) n (access t)) (n + b) (linear t)) (omega arith)
+    ∙ sets-rest (laid w (laid w o 0 (resolve t)) a (access t)) (4 * (a + b)) (words w (linear t))
+    ∙ ap (λ (l : List ℕ). on_rest (a + b) (part_buffer linear s) l) (sets-rest (laid w o 0 (resolve t)) (4 * a) (words w (access t)))
+  where
+    t : Tree
+    t = tree s
 
-  parts-laid : (l : List (Tree → List Rec)) (o : List ℕ) (k : ℕ) → laid (entry_of (tree s)) o k (joined l) ≡ parts_after k l s o
-  unfolding joined parts_after
-  parts-laid [] o k = refl
-  parts-laid (p ∷ l) o k =
-      laid-append (entry_of (tree s)) o k (p (tree s)) (joined l)
-      ∙ parts-laid l (laid (entry_of (tree s)) o k (p (tree s))) (k + length (p (tree s)))
-      ∙ ap (λ (q : List ℕ). parts_after (k + part_count p s) l s q) (sets-rest o (4 * k) (words (entry_of (tree s)) (p (tree s))))
+    w : ℕ → ℕ
+    w = entry_of t
 
-pub in_turn : (a : Asked) → InTurn a
-unfolding offences joined
-in_turn three s o =
-    ap (λ (l : List Rec). laid (entry_of (tree s)) o 0 (resolve (tree s) ++ (access (tree s) ++ l))) (sym (append-nil (linear (tree s))))
-    ∙ parts-laid s (parts_for three) o 0
-in_turn (four b) s o =
-    ap (laid (entry_of (tree s)) o 0)
-    (append_assoc (resolve (tree s)) (access (tree s) ++ linear (tree s)) (conserve b (tree s))
-    ∙ ap (λ (l : List Rec). resolve (tree s) ++ l) (append_assoc (access (tree s)) (linear (tree s)) (conserve b (tree s)) ∙ ap (λ (l : List Rec). access (tree s) ++ (linear (tree s) ++ l)) (sym (append-nil (conserve b (tree s))))))
-    ∙ parts-laid s (parts_for (four b)) o 0
+    a : ℕ
+    a = part_count resolve s
+
+    b : ℕ
+    b = part_count access s
 
 -- a part's words: those that fit are written from the buffer's start, words past them keep their values, and so does the length
 sets-before : (o : List ℕ) (i : ℕ) (v : List ℕ) (j : ℕ) → j < i → get_or (sets o i v) j 0 ≡ get_or o j 0
@@ -219,83 +180,83 @@ module _ (e : ℕ → ℕ) (o : List ℕ) (l : List Rec) where
 
 -- The list
 
-module _ (a : Asked) (s : List ℕ) where
+module _ (s : List ℕ) where
   abbrev count : ℕ
-  count = length (offences_for a (tree s))
+  count = length (offences (tree s))
 
   -- the list in the buffer o
   abbrev whole : List ℕ → List ℕ
-  whole o = laid (entry_of (tree s)) o 0 (offences_for a (tree s))
+  whole o = laid (entry_of (tree s)) o 0 (offences (tree s))
 
-  pub list-refused : (n : ℕ) → IsRefusedFor a s → list_answer_for a s n ≡ list_refused (refusal_for a s)
-  unfolding list_answer_for
-  list-refused n r = ap (λ (b : Bool). pick b (pick (ltb n (4 * count)) (list_refused 9) (list_has count)) (list_refused (refusal_for a s))) (ne_eqb (refusal_for a s) 0 r)
+  pub list-refused : (n : ℕ) → IsRefused s → list_answer s n ≡ list_refused (refusal s)
+  unfolding list_answer
+  list-refused n r = ap (λ (b : Bool). pick b (pick (ltb n (4 * count)) (list_refused 9) (list_has count)) (list_refused (refusal s))) (ne_eqb (refusal s) 0 r)
 
-  admits : (n : ℕ) → IsAdmittedFor a s → list_answer_for a s n ≡ pick (ltb n (4 * count)) (list_refused 9) (list_has count)
-  unfolding list_answer_for
-  admits n e = ap (λ (b : Bool). pick b (pick (ltb n (4 * count)) (list_refused 9) (list_has count)) (list_refused (refusal_for a s))) (eq-eqb (refusal_for a s) 0 e)
+  admits : (n : ℕ) → IsAdmitted s → list_answer s n ≡ pick (ltb n (4 * count)) (list_refused 9) (list_has count)
+  unfolding list_answer
+  admits n e = ap (λ (b : Bool). pick b (pick (ltb n (4 * count)) (list_refused 9) (list_has count)) (list_refused (refusal s))) (eq-eqb (refusal s) 0 e)
 
-  pub list-short : (n : ℕ) → IsAdmittedFor a s → n < 4 * count → list_answer_for a s n ≡ list_refused 9
+  pub list-short : (n : ℕ) → IsAdmitted s → n < 4 * count → list_answer s n ≡ list_refused 9
   list-short n e l = admits n e ∙ ap (λ (b : Bool). pick b (list_refused 9) (list_has count)) (lt-ltb n (4 * count) l)
 
-  pub list-listed : (n : ℕ) → IsAdmittedFor a s → 4 * count ≤ n → list_answer_for a s n ≡ list_has count
+  pub list-listed : (n : ℕ) → IsAdmitted s → 4 * count ≤ n → list_answer s n ≡ list_has count
   list-listed n e l = admits n e ∙ ap (λ (b : Bool). pick b (list_refused 9) (list_has count)) (le-ltb n (4 * count) l)
 
   module _ (o : List ℕ) where
-    buffer-is : (x : ListReply) → list_answer_for a s (length o) ≡ x → list_buffer_for a s o ≡ pick (eqb x.number 0) (whole o) o
-    unfolding list_buffer_for
-    buffer-is x q = ap (λ (b : ListReply). pick (eqb b.number 0) (whole o) o) q
+    buffer-is : (a : ListReply) → list_answer s (length o) ≡ a → list_buffer s o ≡ pick (eqb a.number 0) (whole o) o
+    unfolding list_buffer
+    buffer-is a q = ap (λ (b : ListReply). pick (eqb b.number 0) (whole o) o) q
 
-    pub buffer-refused : IsRefusedFor a s → list_buffer_for a s o ≡ o
-    buffer-refused r = buffer-is _ (list-refused (length o) r) ∙ ap (λ (b : Bool). pick b (whole o) o) (ne_eqb (refusal_for a s) 0 r)
+    pub buffer-refused : IsRefused s → list_buffer s o ≡ o
+    buffer-refused r = buffer-is _ (list-refused (length o) r) ∙ ap (λ (b : Bool). pick b (whole o) o) (ne_eqb (refusal s) 0 r)
 
-    pub buffer-short : IsAdmittedFor a s → length o < 4 * count → list_buffer_for a s o ≡ o
+    pub buffer-short : IsAdmitted s → length o < 4 * count → list_buffer s o ≡ o
     buffer-short e l = buffer-is _ (list-short (length o) e l)
 
-    pub buffer-listed : IsAdmittedFor a s → 4 * count ≤ length o → list_buffer_for a s o ≡ whole o
+    pub buffer-listed : IsAdmitted s → 4 * count ≤ length o → list_buffer s o ≡ whole o
     buffer-listed e l = buffer-is _ (list-listed (length o) e l)
 
     -- the length is unchanged, and words past the last record keep their values, whatever the answer
-    buffer-cases : (P : List ℕ → Type 0) → P o → P (whole o) → P (list_buffer_for a s o)
-    unfolding list_buffer_for
-    buffer-cases P x y = go (eqb (list_answer_for a s (length o)).number 0)
+    buffer-cases : (P : List ℕ → Type 0) → P o → P (whole o) → P (list_buffer s o)
+    unfolding list_buffer
+    buffer-cases P x y = go (eqb (list_answer s (length o)).number 0)
       where
         go : (b : Bool) → P (pick b (whole o) o)
         go true = y
         go false = x
 
-    pub buffer-long : length (list_buffer_for a s o) ≡ length o
-    buffer-long = buffer-cases (λ b. length b ≡ length o) refl (laid-long (entry_of (tree s)) o (offences_for a (tree s)))
+    pub buffer-long : length (list_buffer s o) ≡ length o
+    buffer-long = buffer-cases (λ b. length b ≡ length o) refl (laid-long (entry_of (tree s)) o (offences (tree s)))
 
   -- words past the last record keep their values
-  pub buffer-kept : (o : List ℕ) (i : ℕ) → 4 * (list_answer_for a s (length o)).records ≤ i → get_or (list_buffer_for a s o) i 0 ≡ get_or o i 0
-  buffer-kept o i h = ⊎_elim admitted (λ r. ap (λ (b : List ℕ). get_or b i 0) (buffer-refused o r)) (decide a s)
+  pub buffer-kept : (o : List ℕ) (i : ℕ) → 4 * (list_answer s (length o)).records ≤ i → get_or (list_buffer s o) i 0 ≡ get_or o i 0
+  buffer-kept o i h = ⊎_elim admitted (λ r. ap (λ (b : List ℕ). get_or b i 0) (buffer-refused o r)) (decide s)
     where
-      admitted : IsAdmittedFor a s → get_or (list_buffer_for a s o) i 0 ≡ get_or o i 0
+      admitted : IsAdmitted s → get_or (list_buffer s o) i 0 ≡ get_or o i 0
       admitted e = go (ltb (length o) (4 * count)) refl
         where
-          go : (b : Bool) → ltb (length o) (4 * count) ≡ b → get_or (list_buffer_for a s o) i 0 ≡ get_or o i 0
+          go : (b : Bool) → ltb (length o) (4 * count) ≡ b → get_or (list_buffer s o) i 0 ≡ get_or o i 0
           go true q = ap (λ (b : List ℕ). get_or b i 0) (buffer-short o e (ltb-true _ _ q))
           go false q =
               let l = ltb-false (length o) (4 * count) q in
-              let k : (list_answer_for a s (length o)).records ≡ count = ap (λ (x : ListReply). x.records) (list-listed (length o) e l) in
-              ap (λ (b : List ℕ). get_or b i 0) (buffer-listed o e l) ∙ laid_kept (entry_of (tree s)) o (offences_for a (tree s)) i (omega arith)
+              let k : (list_answer s (length o)).records ≡ count = ap (λ (a : ListReply). a.records) (list-listed (length o) e l) in
+              ap (λ (b : List ℕ). get_or b i 0) (buffer-listed o e l) ∙ laid_kept (entry_of (tree s)) o (offences (tree s)) i (omega arith)
 
 -- A pass's part of the list
 
-module _ (a : Asked) (pass : Tree → List Rec) (s : List ℕ) where
-  pub part-refused : IsRefusedFor a s → part_answer_for a pass s ≡ list_refused (refusal_for a s)
-  unfolding part_answer_for
-  part-refused r = ap (λ (b : Bool). pick b (list_has (part_count pass s)) (list_refused (refusal_for a s))) (ne_eqb (refusal_for a s) 0 r)
+module _ (pass : Tree → List Rec) (s : List ℕ) where
+  pub part-refused : IsRefused s → part_answer pass s ≡ list_refused (refusal s)
+  unfolding part_answer
+  part-refused r = ap (λ (b : Bool). pick b (list_has (part_count pass s)) (list_refused (refusal s))) (ne_eqb (refusal s) 0 r)
 
-  pub part-admitted : IsAdmittedFor a s → part_answer_for a pass s ≡ list_has (part_count pass s)
-  unfolding part_answer_for
-  part-admitted e = ap (λ (b : Bool). pick b (list_has (part_count pass s)) (list_refused (refusal_for a s))) (eq-eqb (refusal_for a s) 0 e)
+  pub part-admitted : IsAdmitted s → part_answer pass s ≡ list_has (part_count pass s)
+  unfolding part_answer
+  part-admitted e = ap (λ (b : Bool). pick b (list_has (part_count pass s)) (list_refused (refusal s))) (eq-eqb (refusal s) 0 e)
 
-  pub part-words-refused : (o : List ℕ) → IsRefusedFor a s → part_words_for a pass s o ≡ o
-  unfolding part_words_for
-  part-words-refused o r = ap (λ (b : Bool). pick b (part_buffer pass s o) o) (ne_eqb (refusal_for a s) 0 r)
+  pub part-words-refused : (o : List ℕ) → IsRefused s → part_words pass s o ≡ o
+  unfolding part_words
+  part-words-refused o r = ap (λ (b : Bool). pick b (part_buffer pass s o) o) (ne_eqb (refusal s) 0 r)
 
-  pub part-words-admitted : (o : List ℕ) → IsAdmittedFor a s → part_words_for a pass s o ≡ part_buffer pass s o
-  unfolding part_words_for
-  part-words-admitted o e = ap (λ (b : Bool). pick b (part_buffer pass s o) o) (eq-eqb (refusal_for a s) 0 e)
+  pub part-words-admitted : (o : List ℕ) → IsAdmitted s → part_words pass s o ≡ part_buffer pass s o
+  unfolding part_words
+  part-words-admitted o e = ap (λ (b : Bool). pick b (part_buffer pass s o) o) (eq-eqb (refusal s) 0 e)

@@ -14,7 +14,7 @@ use Rattle.image.proofs.Every.{both_right, every-at}
 use Rattle.image.proofs.Given.{given}
 use Rattle.rules.specs.Sweep.{first, same}
 use Rattle.rules.specs.Names.{name_text, SameNumbers, EqualNumbers, number_of, Found, NotFound}
-use Rattle.rules.proofs.Reflect.{tells-same, first-from, first_is, first-at}
+use Rattle.rules.proofs.Reflect.{tells-same, first-from, first-is, first-at}
 
 pub never : (a : List ℕ) → less a a ≡ true → ⊥
 unfolding less
@@ -108,7 +108,7 @@ module _ (s w : List ℕ) where
   least = first (λ x. same (name_text s x) w) 1 (name_count s)
 
   least-is : least ≤ name_count s → name_text s least ≡ w
-  least-is l = (tells-same (name_text s least) w).so (first_is (λ x. same (name_text s x) w) 1 (name_count s) (omega arith))
+  least-is l = (tells-same (name_text s least) w).so (first-is (λ x. same (name_text s x) w) 1 (name_count s) (omega arith))
 
   least_at : (x : ℕ) → 1 ≤ x → x ≤ name_count s → name_text s x ≡ w → least ≤ x
   least_at x a b e = first-at (λ x. same (name_text s x) w) 1 (name_count s) x a (omega arith) ((tells-same (name_text s x) w).back e)

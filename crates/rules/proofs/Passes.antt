@@ -1,5 +1,5 @@
 -- Demand 3, pass by pass: each pass's records are those of the full list that have its codes; it accepts exactly when there is none, and else refuses with the first.
-use Prim.Native.Nat.{ℕ, ◌<◌, ◌≤◌}
+use Prim.Native.Nat.{ℕ, ◌≤◌}
 use mathlib.Core.Path.{◌≡◌, refl, ap, ap₂, ◌∙◌, sym, subst}
 use mathlib.Core.Bool.{Bool, true, false}
 use mathlib.Core.List.Memᴰ
@@ -15,30 +15,25 @@ use Rattle.rules.specs.Vocabulary.{Rec}
 use Rattle.rules.specs.Resolve.{resolve}
 use Rattle.rules.specs.Access.{access}
 use Rattle.rules.specs.Linear.{linear}
-use Rattle.rules.specs.Conserve.{Supply, conserve}
-use Rattle.rules.specs.Conserve.Supply.{is70, is71, is72}
-use Rattle.rules.specs.Asked.{Asked}
-use Rattle.rules.specs.Asked.Asked.{three, four}
-use Rattle.rules.specs.All.{OffenceFor, offences, offences_for, Ordered, key}
-use Rattle.rules.specs.Passes.{PassRules, resolving, accessing, linearity, supplying, Of, of_pass, None, FirstOffence}
+use Rattle.rules.specs.All.{Offence, offences, Ordered, key}
+use Rattle.rules.specs.Passes.{PassRules, resolving, accessing, linearity, Of, of_pass, None, FirstOffence}
 use Rattle.rules.proofs.Reflect.{Tells, Finds, tells_both, finds-as}
 use Rattle.rules.proofs.Resolve.{Found24, Found35, finds-resolve, unknown-so}
 use Rattle.rules.proofs.Access.{finds-access}
 use Rattle.rules.proofs.Linear.{finds-linear}
-use Rattle.rules.proofs.Conserve.{finds-conserve}
 use Rattle.rules.proofs.Exact.{finds-offences}
 use Rattle.rules.proofs.Unique.{apart}
 use Rattle.rules.proofs.Full.{full}
 
 -- what a pass does, from which demands 2 and 3 follow
-pub record Judges (a : Asked) (t : Tree) (p : PassRules) : Type 0 where
+pub record Judges (t : Tree) (p : PassRules) : Type 0 where
   -- its records are those of the full list that have its codes
-  pub part : of_pass p (offences_for a t) ≡ p.part t
+  pub part : of_pass p (offences t) ≡ p.part t
   -- it has none exactly when there is none of its offences
-  pub accepts : (p.part t ≡ []) ↔ None a t p
+  pub accepts : (p.part t ≡ []) ↔ None t p
   -- else there is a first of them, and its first record is that
-  pub has_first : (p.part t ≡ [] → ⊥) → (r : Rec) × FirstOffence a t p r
-  pub refuses : (r : Rec) → FirstOffence a t p r → (l : List Rec) × (p.part t ≡ r ∷ l)
+  pub has_first : (p.part t ≡ [] → ⊥) → (r : Rec) × FirstOffence t p r
+  pub refuses : (r : Rec) → FirstOffence t p r → (l : List Rec) × (p.part t ≡ r ∷ l)
 
 -- The records of a pass among those of a list
 
@@ -107,7 +102,7 @@ code p r {c} e s =
     (omega arith, omega arith)
 
 module _ (t : Tree) (r : Rec) where
-  pub of-resolve : Memᴰ r (resolve t) → Of resolving r
+  of-resolve : Memᴰ r (resolve t) → Of resolving r
   of-resolve m =
       ⊎_elim (c refl) (⊎_elim (c refl) (⊎_elim (c refl) (⊎_elim (c refl) (⊎_elim of24 (⊎_elim (⊎_elim (c refl) (c refl)) (⊎_elim (c refl)
       (⊎_elim (⊎_elim (c refl) (λ s. c refl (unknown-so t r (inl s)))) of35)))))))
@@ -122,19 +117,11 @@ module _ (t : Tree) (r : Rec) where
       of35 : Found35 t r → Of resolving r
       of35 = ⊎_elim (c refl) (⊎_elim (c refl) (⊎_elim (c refl) (⊎_elim (c refl) (⊎_elim (c refl) (⊎_elim (c refl) (λ s. c refl (unknown-so t r (inr s))))))))
 
-  pub of-access : Memᴰ r (access t) → Of accessing r
+  of-access : Memᴰ r (access t) → Of accessing r
   of-access m = ⊎_elim (code accessing r refl) (code accessing r refl) ((finds-access t).so r m)
 
-  pub of-linear : Memᴰ r (linear t) → Of linearity r
+  of-linear : Memᴰ r (linear t) → Of linearity r
   of-linear m = ⊎_elim (code linearity r refl) (⊎_elim (code linearity r refl) (code linearity r refl)) ((finds-linear t).so r m)
-
-  pub of-conserve : (b : List ℕ) → Memᴰ r (conserve b t) → Of (supplying b) r
-  of-conserve b m = go ((finds-conserve b t).so r m)
-    where
-      go : Supply b t r → Of (supplying b) r
-      go (is70 e o) = code (supplying b) r refl (e, o)
-      go (is71 e o) = code (supplying b) r refl (e, o)
-      go (is72 e o) = code (supplying b) r refl (e, o)
 
 -- a list of three parts, of which one has the pass's records
 module _ (p : PassRules) (a b c : List Rec) where
@@ -166,42 +153,26 @@ module _ (t : Tree) where
   part-linear : of_pass linearity (offences t) ≡ linear t
   part-linear = left-of linearity (resolve-not linearity (λ r u h. omega arith)) (access-not linearity (λ r u h. omega arith)) (of-all linearity (linear t) (of-linear t))
 
-  -- where supply is asked for too, the three passes have the same records
-  of_three : (p : PassRules) → p.most < 70 → of_pass p (offences t) ≡ p.part t → (a : Asked) → of_pass p (offences_for a t) ≡ p.part t
-  of_three p h e three = e
-  of_three p h e (four b) =
-      of-append p (offences t) (conserve b t)
-      ∙ ap₂ ◌++◌ e (of_none p (conserve b t) (λ r m u. let v = of-conserve t r b m in omega arith))
-      ∙ append-nil (p.part t)
-
-  part-conserve : (b : List ℕ) → of_pass (supplying b) (offences_for (four b) t) ≡ conserve b t
-  part-conserve b =
-      of-append q (offences t) (conserve b t)
-      ∙ ap₂ ◌++◌ (left-of q (resolve-not q (λ r u h. omega arith)) (access-not q (λ r u h. omega arith)) (linear-not q (λ r u h. omega arith))) (of-all q (conserve b t) (λ r. of-conserve t r b))
-    where
-      q : PassRules
-      q = supplying b
-
 -- What a pass does, of the records in its part
 
-module _ (a : Asked) (t : Tree) (p : PassRules) where
+module _ (t : Tree) (p : PassRules) where
   abbrev Mine : List Rec → Type 0
-  Mine l = Finds l (λ r. OffenceFor a t r × Of p r)
+  Mine l = Finds l (λ r. Offence t r × Of p r)
 
-  accepts : (l : List Rec) → Mine l → (l ≡ []) ↔ None a t p
+  accepts : (l : List Rec) → Mine l → (l ≡ []) ↔ None t p
   accepts [] f = (λ e r x y. Memᴰ.not-nil (f.back r (x, y)), λ n. refl)
   accepts (r ∷ l) f =
       let o = f.so r (Memᴰ.head refl) in
       (λ e. absurd (Memᴰ.not-nil (subst (λ (m : List Rec). Memᴰ r m) e (Memᴰ.head refl))), λ n. absurd (n r o.0 o.1))
 
-  has_first : (l : List Rec) → Mine l → Ordered (key t) l → (l ≡ [] → ⊥) → (r : Rec) × FirstOffence a t p r
+  has_first : (l : List Rec) → Mine l → Ordered (key t) l → (l ≡ [] → ⊥) → (r : Rec) × FirstOffence t p r
   unfolding Ordered
   has_first [] f o n = absurd (n refl)
   has_first (r ∷ l) f o n =
       let h = f.so r (Memᴰ.head refl) in
       (r, record { is = h.0; of = h.1; first = λ q x y. ⊎_elim inl (λ m. inr (o.0 q m)) (Memᴰ.cases_cons (f.back q (x, y))) })
 
-  refuses : (l : List Rec) → Mine l → Ordered (key t) l → (r : Rec) → FirstOffence a t p r → (m : List Rec) × (l ≡ r ∷ m)
+  refuses : (l : List Rec) → Mine l → Ordered (key t) l → (r : Rec) → FirstOffence t p r → (m : List Rec) × (l ≡ r ∷ m)
   unfolding Ordered
   refuses [] f o r h = absurd (Memᴰ.not-nil (f.back r (h.is, h.of)))
   refuses (q ∷ l) f o r h =
@@ -214,25 +185,18 @@ module _ (a : Asked) (t : Tree) (p : PassRules) where
       begins : r ≡ q → (m : List Rec) × (q ∷ l ≡ r ∷ m)
       begins e = (l, ap (λ (x : Rec). x ∷ l) (sym e))
 
-  pub judged : Ordered (key t) (offences_for a t) → of_pass p (offences_for a t) ≡ p.part t → Judges a t p
+  pub judged : Ordered (key t) (offences t) → of_pass p (offences t) ≡ p.part t → Judges t p
   judged o e =
-      let f : Mine (p.part t) = subst Mine e (finds-as (λ r h. ((finds-offences a t).so r h.0, h.1)) (λ r h. ((finds-offences a t).back r h.0, h.1)) (finds-of p (offences_for a t))) in
-      let i : Ordered (key t) (p.part t) = subst (Ordered (key t)) e (ordered_of p (key t) (offences_for a t) o) in
+      let f : Mine (p.part t) = subst Mine e (finds-as (λ r h. ((finds-offences t).so r h.0, h.1)) (λ r h. ((finds-offences t).back r h.0, h.1)) (finds-of p (offences t))) in
+      let i : Ordered (key t) (p.part t) = subst (Ordered (key t)) e (ordered_of p (key t) (offences t) o) in
       record { part = e; accepts = accepts (p.part t) f; has_first = has_first (p.part t) f i; refuses = refuses (p.part t) f i }
 
 module _ (s : List ℕ) (e : refusal s ≡ 0) where
-  -- a pass of the three judges, whatever is asked for
-  judges-three : (a : Asked) (p : PassRules) → p.most < 70 → of_pass p (offences (tree s)) ≡ p.part (tree s) → Judges a (tree s) p
-  judges-three a p h q = judged a (tree s) p (full a s e).ordered (of_three (tree s) p h q a)
+  pub judges-resolve : Judges (tree s) resolving
+  judges-resolve = judged (tree s) resolving (full s e).ordered (part-resolve (tree s))
 
-  pub judges-resolve : (a : Asked) → Judges a (tree s) resolving
-  judges-resolve a = judges-three a resolving (omega arith) (part-resolve (tree s))
+  pub judges-access : Judges (tree s) accessing
+  judges-access = judged (tree s) accessing (full s e).ordered (part-access (tree s))
 
-  pub judges-access : (a : Asked) → Judges a (tree s) accessing
-  judges-access a = judges-three a accessing (omega arith) (part-access (tree s))
-
-  pub judges-linear : (a : Asked) → Judges a (tree s) linearity
-  judges-linear a = judges-three a linearity (omega arith) (part-linear (tree s))
-
-  pub judges-conserve : (b : List ℕ) → Judges (four b) (tree s) (supplying b)
-  judges-conserve b = judged (four b) (tree s) (supplying b) (full (four b) s e).ordered (part-conserve (tree s) b)
+  pub judges-linear : Judges (tree s) linearity
+  judges-linear = judged (tree s) linearity (full s e).ordered (part-linear (tree s))

@@ -7,7 +7,7 @@ use Rattle.rules.specs.Tree.{Tree, the_name, target_of, callee_of, asset, field,
 use Rattle.rules.specs.Words.{Q_Address, deployer, mint_asset, builtins, methods}
 use Rattle.rules.specs.Record.{Rec, rec}
 use Rattle.rules.specs.Preorder.{below, arguments}
-use Rattle.rules.specs.ComputeVocabulary.{only, alone, some_below, first_below, calls, named, declares, first_named, at_bottom, is_ident, is_field, word_call, signers, typed}
+use Rattle.rules.specs.ComputeVocabulary.{only, alone, some_below, first_below, calls, named, declares, first_named, at_bottom, is_ident, is_field, signers, typed}
 use Rattle.rules.specs.ComputeModel.{is_state, is_state_typed, is_declared_asset, is_known_asset}
 use Rattle.rules.specs.Signature.{signature}
 
@@ -27,7 +27,7 @@ unfoldable pub many_assets : Tree → Bool
 many_assets t = some_below t asset t.root (λ b. some_below t asset t.root (λ a. ltb a b))
 
 unfoldable pub rule22 : Tree → ℕ → List Rec
-rule22 t = word_call t 22 (mint_asset ∷ [])
+rule22 t c = only (is_ident t (mint_asset ∷ []) (callee_of t c)) (rec 22 c 0)
 
 unfoldable pub mint_calls : Tree → List Rec
 mint_calls t = below t bodied t.root (λ i. calls t i (rule22 t))

@@ -2,8 +2,8 @@
 -- finds out its fact is proved in proofs/Reflect.
 use Rattle.std.specs.Prelude.{ℕ, suc, ◌-◌, Bool, true, false, not, ◌&&◌, List, [], ◌∷◌, ltb, eqb}
 use Rattle.rules.specs.Sweep.{also, keep, some, first, has, same, has_word}
-use Rattle.rules.specs.Tree.{Tree, the_name, type_name, signer_of, member_of, callee_of, param, statement, call}
-use Rattle.rules.specs.Record.{Rec, rec}
+use Rattle.rules.specs.Tree.{Tree, the_name, type_name, signer_of, member_of, param, statement, call}
+use Rattle.rules.specs.Record.{Rec}
 use Rattle.rules.specs.Preorder.{below, is_child}
 
 -- the record, if the test holds
@@ -52,10 +52,6 @@ is_ident t ws x = eqb (t.kind x) 35 && has_word (t.text x) ws
 
 unfoldable pub is_field : Tree → List (List ℕ) → ℕ → Bool
 is_field t ws x = eqb (t.kind x) 42 && has_word (t.text (member_of t x)) ws
-
--- code c at the Call p, if its callee is an Ident of one of the words
-abbrev pub word_call : Tree → ℕ → List (List ℕ) → ℕ → List Rec
-word_call t c ws p = only (is_ident t ws (callee_of t p)) (rec c p 0)
 
 unfoldable pub signers : Tree → ℕ → (ℕ → List Rec) → List Rec
 signers t e f = below t param e (λ x. keep (ltb (signer_of t x) (t.end x)) f (signer_of t x))

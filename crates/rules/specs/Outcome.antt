@@ -18,8 +18,7 @@ use Rattle.rules.specs.Resolve.{rule20, group20, rule21, group21, many_assets, r
 use Rattle.rules.specs.Access.{rule50, group50, is_unwritten, is_write, assign_rule, call_rule, statement_rules, group51, access}
 use Rattle.rules.specs.Linear.{produces, is_row, place_of, is_alias, rule60, is_burned, is_earlier, is_later, marks, is_counted, uses, judged, row_rule, linear_entry, linear}
 use Rattle.rules.specs.All.{offences, latest, holder}
-use Rattle.rules.specs.Answers.{Answer, pass_answer_for, NameReply, ask, ListReply, list_refused, list_has, list_answer_for, list_buffer_for}
-use Rattle.rules.specs.Three.{pass_answer, list_answer, list_buffer}
+use Rattle.rules.specs.Answers.{Answer, pass_answer, NameReply, ask, ListReply, list_refused, list_has, list_answer, list_buffer}
 
 -- the refusal, the answers of the three passes, and the full list (none where the image is refused)
 pub record Outcome : Type 0 where
@@ -33,7 +32,7 @@ unfoldable pub outcome : List ℕ → Outcome
 unfolding every somewhere count is_of rows children fits class_of word_at less name_at tiles_from kids_from children_fit carries name_fits node_ok ends_past shallow carries_name used_in layout_ok header_refusal body_refusal refusal
     keep some first run has same has_word only below some_below first_below calls some_call is_child arguments some_argument named declares first_named down at_bottom is_ident is_field signers typed is_state is_state_typed is_declared_asset inner is_known_asset
     rule20 group20 rule21 group21 many_assets rule22 mint_calls group22 comma type_text signature first_signed rule23 group23 rule24 rule25 rule26 rule27 rule28 rule29 let_rules entry_names group24 rule30 last_event unlike rule31 emits group30 rule32 deployer_in deployer_of group32 rule33 rule34 genesis_rules group33 rule35 clause_rule is_address rule40 entry_rules group35 resolve
-    rule50 group50 is_unwritten is_write assign_rule call_rule statement_rules group51 access produces is_row place_of is_alias rule60 is_burned is_earlier is_later marks is_counted uses judged row_rule linear_entry linear offences pass_answer_for
+    rule50 group50 is_unwritten is_write assign_rule call_rule statement_rules group51 access produces is_row place_of is_alias rule60 is_burned is_earlier is_later marks is_counted uses judged row_rule linear_entry linear offences pass_answer
 outcome s = record {
   refused = refusal s;
   resolving = pass_answer resolve s;
@@ -56,7 +55,7 @@ pub record Answered (s : List ℕ) (v : Outcome) : Type 0 where
   pub unlisted : (v.refused ≡ 0 → ⊥) → (size : ℕ) → list_answer s size ≡ list_refused v.refused
 
 pub answers : {s : List ℕ} {v : Outcome} → outcome s ≡ v → Answered s v
-unfolding outcome list_answer_for
+unfolding outcome list_answer
 answers {s} {v} e = record {
   refused = n;
   resolving = ap (λ (o : Outcome). o.resolving) e;
@@ -100,7 +99,7 @@ pub record Filled : Type 0 where
   pub buffer : List ℕ
 
 unfoldable pub filled : List ℕ → List ℕ → Filled
-unfolding outcome latest holder list_answer_for list_buffer_for
+unfolding outcome latest holder list_answer list_buffer
 filled s o = record { answer = list_answer s (length o); buffer = list_buffer s o }
 
 -- 23's text of entry e

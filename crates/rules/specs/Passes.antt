@@ -1,4 +1,4 @@
--- The passes of document 01, and that of E6 of document 02: which offences are a pass's, and which one is its first.
+-- The passes of document 01: which offences are a pass's, and which one is its first.
 use Rattle.std.specs.Prelude.{ℕ, ◌≤◌, ◌≡◌, ◌&&◌, List, [], ◌∷◌, ◌⊎◌, leb}
 use Rattle.image.specs.Pick.{pick}
 use Rattle.rules.specs.Tree.{Tree}
@@ -6,10 +6,7 @@ use Rattle.rules.specs.Record.{Rec}
 use Rattle.rules.specs.Resolve.{resolve}
 use Rattle.rules.specs.Access.{access}
 use Rattle.rules.specs.Linear.{linear}
-use Rattle.rules.specs.Conserve.{conserve}
-use Rattle.rules.specs.Asked.{Asked}
-use Rattle.rules.specs.Asked.Asked.{three, four}
-use Rattle.rules.specs.All.{OffenceFor, Before, key}
+use Rattle.rules.specs.All.{Offence, Before, key}
 
 -- a pass: its part of the list, and its codes
 pub record PassRules : Type 0 where
@@ -26,14 +23,6 @@ accessing = record { part = access; least = 50; most = 51 }
 abbrev pub linearity : PassRules
 linearity = record { part = linear; least = 60; most = 62 }
 
-abbrev pub supplying : List ℕ → PassRules
-supplying b = record { part = conserve b; least = 70; most = 72 }
-
--- of each pass that is asked for
-abbrev pub EachPass : Asked → (PassRules → Type 0) → Type 0
-EachPass three P = P resolving × P accessing × P linearity
-EachPass (four b) P = P resolving × P accessing × P linearity × P (supplying b)
-
 -- r is one of the pass's
 abbrev pub Of : PassRules → Rec → Type 0
 Of p r = (p.least ≤ r.code) × (r.code ≤ p.most)
@@ -45,11 +34,11 @@ of_pass p (r ∷ l) =
     pick (leb p.least r.code && leb r.code p.most) (r ∷ of_pass p l) (of_pass p l)
 
 -- no offence of the contract is one of the pass's
-abbrev pub None : Asked → Tree → PassRules → Type 0
-None a t p = (r : Rec) → OffenceFor a t r → Of p r → ⊥
+abbrev pub None : Tree → PassRules → Type 0
+None t p = (r : Rec) → Offence t r → Of p r → ⊥
 
 -- r is the first of them
-pub record FirstOffence (a : Asked) (t : Tree) (p : PassRules) (r : Rec) : Type 0 where
-  pub is : OffenceFor a t r
+pub record FirstOffence (t : Tree) (p : PassRules) (r : Rec) : Type 0 where
+  pub is : Offence t r
   pub of : Of p r
-  pub first : (q : Rec) → OffenceFor a t q → Of p q → (q ≡ r) ⊎ Before (key t r) (key t q)
+  pub first : (q : Rec) → Offence t q → Of p q → (q ≡ r) ⊎ Before (key t r) (key t q)

@@ -11,8 +11,7 @@ use Rattle.rules.specs.Resolve.{resolve}
 use Rattle.rules.specs.Access.{access}
 use Rattle.rules.specs.Linear.{linear}
 use Rattle.rules.specs.All.{offences, entry_of}
-use Rattle.rules.specs.Answers.{Answer, span_from, span_to, ListReply}
-use Rattle.rules.specs.Three.{pass_answer, list_answer}
+use Rattle.rules.specs.Answers.{Answer, pass_answer, span_from, span_to, ListReply, list_answer}
 
 -- so many words has the list's buffer
 abbrev pub report_words : ℕ
@@ -52,14 +51,12 @@ list_lines s a =
     (bytes "list" ++ (rest (a.records ∷ []) ++ record_lines s (offences (tree s))))
     (bytes "list refused" ++ rest (a.number ∷ []))
 
--- the lines of the passes, and what follows them
-abbrev pub pass_lines : List ℕ → List ℕ → List ℕ
-pass_lines s w =
-    pass_line (bytes "resolve") (pass_answer resolve s)
-    ++ (pass_line (bytes "access") (pass_answer access s)
-    ++ (pass_line (bytes "linear") (pass_answer linear s) ++ w))
-
 -- the whole text
 unfoldable pub report_text : List ℕ → List ℕ
 report_text s =
-    pick (eqb (refusal s) 0) (pass_lines s (list_lines s (list_answer s report_words))) (bytes "image" ++ rest (refusal s ∷ []))
+    pick (eqb (refusal s) 0)
+    (pass_line (bytes "resolve") (pass_answer resolve s)
+    ++ (pass_line (bytes "access") (pass_answer access s)
+    ++ (pass_line (bytes "linear") (pass_answer linear s)
+    ++ list_lines s (list_answer s report_words))))
+    (bytes "image" ++ rest (refusal s ∷ []))

@@ -5,11 +5,8 @@ use Rattle.image.specs.Pick.{pick}
 use Rattle.rules.specs.Tree.{Tree}
 use Rattle.rules.specs.Vocabulary.{Rec}
 use Rattle.rules.specs.Answers as rules
-use Rattle.rules.specs.Asked.{Asked}
-use Rattle.rules.specs.Asked.Asked.{three}
-unfoldable pub use Rattle.rules.specs.Answers.{part_answer_for, part_words_for}
-pub use Rattle.rules.specs.Three.{part_answer, part_words}
-pub use Rattle.passes.specs.Verdicts.{Stands, answer_of, verdict_of, JudgedFor, Judged}
+unfoldable pub use Rattle.rules.specs.Answers.{part_answer, part_words}
+pub use Rattle.passes.specs.Verdicts.{Stands, answer_of, verdict_of, Judged}
 use Rattle.typeck.specs.declared.Reply.{Reply}
 use Rattle.typeck.specs.declared.Reply.TheVariants as reply
 use Rattle.typeck.specs.declared.Listed.{Listed}
@@ -46,15 +43,9 @@ listing_of (listed.Records k) = rules.list_has k
 abbrev pub listed_of : rules.ListReply → Listed
 listed_of a = pick (eqb a.number 0) (listed.Records a.records) (listed.Refused a.number)
 
-abbrev pub ListedFor : Asked → List ℕ → List ℕ → Listed → List ℕ → Type 0
-ListedFor a s words r words' = Stands listing_of listed_of (rules.list_answer_for a s (length words)) r × (words' ≡ rules.list_buffer_for a s words)
-
 abbrev pub ListedAll : List ℕ → List ℕ → Listed → List ℕ → Type 0
-ListedAll = ListedFor three
+ListedAll s words r words' = Stands listing_of listed_of (rules.list_answer s (length words)) r × (words' ≡ rules.list_buffer s words)
 
 -- a pass's part of it
-abbrev pub ListedPartFor : Asked → (Tree → List Rec) → List ℕ → List ℕ → Listed → List ℕ → Type 0
-ListedPartFor a pass s words r words' = Stands listing_of listed_of (part_answer_for a pass s) r × (words' ≡ part_words_for a pass s words)
-
 abbrev pub ListedPart : (Tree → List Rec) → List ℕ → List ℕ → Listed → List ℕ → Type 0
-ListedPart = ListedPartFor three
+ListedPart pass s words r words' = Stands listing_of listed_of (part_answer pass s) r × (words' ≡ part_words pass s words)

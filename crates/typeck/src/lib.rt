@@ -1,22 +1,19 @@
-// The public face of the checker: any bytes in, an answer in document 01's numbers out, for its three passes or, where a byte per entry is lent, for the four of E6. No function here asks anything of its caller.
+// The public face of the checker: any bytes in, an answer in document 01's numbers out. No function here asks anything of its caller.
 ghost use Rattle.std.specs.Prelude.{◌≡◌};
-ghost use Rattle.image.specs.Admit.{refusal, admission_of};
+ghost use Rattle.image.specs.Admit.{refusal};
 ghost use Rattle.rules.specs.Model.{is_state, is_declared_asset, is_known_asset};
 ghost use Rattle.rules.specs.Resolve.{resolve};
 ghost use Rattle.rules.specs.Access.{access};
 ghost use Rattle.rules.specs.Linear.{linear};
-ghost use Rattle.rules.specs.Conserve.{conserve};
-ghost use Rattle.rules.specs.Asked.Asked.{four};
-ghost use Rattle.rules.specs.Asked.{refusal_for};
 ghost use Rattle.records.specs.Words.{old, new};
 ghost use Rattle.model.specs.Questions.{question_of};
-ghost use Rattle.passes.specs.Verdicts.{records_of, asked_of};
-ghost use Rattle.typeck.specs.Face.{Judged, JudgedFor, Replied, ListedAll, ListedFor, ListedPart, ListedPartFor, yes_no};
+ghost use Rattle.passes.specs.Verdicts.{records_of};
+ghost use Rattle.typeck.specs.Face.{Judged, Replied, ListedAll, ListedPart, yes_no};
 
 use image::Admission;
 use model::Question;
-pub use passes::{Answers, FourAnswers, Verdict};
-use passes::{Asked, Pass};
+use passes::Pass;
+pub use passes::{Answers, Verdict};
 
 // What a question about a name answers.
 #[derive(Drop)]
@@ -43,37 +40,12 @@ pub fn refused(image: &[u8]) -> usize
     }
 }
 
-// Admission where bytes are lent: after the image's refusals 15, when they are not one per entry or one exceeds 1.
-fn admit_with(image: &[u8], authority: &[u8]) -> Admission
-    ensures { result ≡ admission_of (refusal_for (four (old authority)) (old image)) (old image) }
+fn verdict_of(pass: Pass, image: &[u8]) -> Verdict
+    ensures { Judged (records_of pass) (old image) result }
 {
     match admission::admit(image) {
-        Admission::Refused(r) => Admission::Refused(r),
-        Admission::Admitted(head) => {
-            if !passes::is_one_per_entry(image, head, authority) {
-                return Admission::Refused(15);
-            }
-            Admission::Admitted(head)
-        }
-    }
-}
-
-// Admission of what is asked for.
-fn admit_for(asked: Asked, image: &[u8], authority: &[u8]) -> Admission
-    ensures { result ≡ admission_of (refusal_for (asked_of asked (old authority)) (old image)) (old image) }
-{
-    match asked {
-        Asked::Three => admission::admit(image),
-        Asked::Four => admit_with(image, authority),
-    }
-}
-
-fn verdict_of(asked: Asked, pass: Pass, image: &[u8], authority: &[u8]) -> Verdict
-    ensures { JudgedFor (asked_of asked (old authority)) (records_of pass (old authority)) (old image) result }
-{
-    match admit_for(asked, image, authority) {
         Admission::Refused(r) => Verdict::Image(r),
-        Admission::Admitted(head) => passes::first_of(pass, image, head, authority),
+        Admission::Admitted(head) => passes::first_of(pass, image, head),
     }
 }
 
@@ -81,34 +53,24 @@ fn verdict_of(asked: Asked, pass: Pass, image: &[u8], authority: &[u8]) -> Verdi
 pub fn resolve(image: &[u8]) -> Verdict
     ensures { Judged resolve (old image) result }
 {
-    let none = [0u8; 0];
-    verdict_of(Asked::Three, Pass::Resolve, image, &none)
+    verdict_of(Pass::Resolve, image)
 }
 
 // The verdict of the access pass.
 pub fn access(image: &[u8]) -> Verdict
     ensures { Judged access (old image) result }
 {
-    let none = [0u8; 0];
-    verdict_of(Asked::Three, Pass::Access, image, &none)
+    verdict_of(Pass::Access, image)
 }
 
 // The verdict of the linear pass.
 pub fn linear(image: &[u8]) -> Verdict
     ensures { Judged linear (old image) result }
 {
-    let none = [0u8; 0];
-    verdict_of(Asked::Three, Pass::Linear, image, &none)
+    verdict_of(Pass::Linear, image)
 }
 
-// The verdict of the conserve pass, where a byte per entry is lent.
-pub fn conserve(image: &[u8], authority: &[u8]) -> Verdict
-    ensures { JudgedFor (four (old authority)) (conserve (old authority)) (old image) result }
-{
-    verdict_of(Asked::Four, Pass::Conserve, image, authority)
-}
-
-// The verdicts of document 01's passes, with one admission.
+// All verdicts, with one admission.
 pub fn verdicts(image: &[u8]) -> Answers
     ensures { Judged resolve (old image) result.resolve × Judged access (old image) result.access × Judged linear (old image) result.linear }
 {
@@ -122,68 +84,31 @@ pub fn verdicts(image: &[u8]) -> Answers
     }
 }
 
-// All four verdicts, with one admission.
-pub fn four_verdicts(image: &[u8], authority: &[u8]) -> FourAnswers
-    ensures { JudgedFor (four (old authority)) resolve (old image) result.three.resolve × JudgedFor (four (old authority)) access (old image) result.three.access × JudgedFor (four (old authority)) linear (old image) result.three.linear × JudgedFor (four (old authority)) (conserve (old authority)) (old image) result.conserve }
+// The full list: the records of all passes, or refusal 9 where the buffer has fewer than 4 words for each.
+pub fn list(image: &[u8], words: &mut [u16]) -> Listed
+    ensures { ListedAll (old image) (old words) result (new words) }
 {
-    match admit_with(image, authority) {
-        Admission::Refused(r) => {
-            let three = Answers {
-                resolve: Verdict::Image(r),
-                access: Verdict::Image(r),
-                linear: Verdict::Image(r),
-            };
-            FourAnswers {
-                three,
-                conserve: Verdict::Image(r),
-            }
-        }
-        Admission::Admitted(head) => passes::answer_four(image, head, authority),
-    }
-}
-
-// The full list of what is asked for: the records of all its passes, or refusal 9 where the buffer has fewer than 4 words for each.
-fn list_of(asked: Asked, image: &[u8], authority: &[u8], words: &mut [u16]) -> Listed
-    ensures { ListedFor (asked_of asked (old authority)) (old image) (old words) result (new words) }
-{
-    match admit_for(asked, image, authority) {
+    match admission::admit(image) {
         Admission::Refused(r) => Listed::Refused(r),
         Admission::Admitted(head) => {
             let size = words.len();
-            let needed = 4 * passes::count_all(asked, image, head, authority);
-            if size < needed {
+            let asked = 4 * passes::count_all(image, head);
+            if size < asked {
                 return Listed::Refused(9);
             }
-            let count = passes::fill(asked, image, head, authority, words);
+            let count = passes::fill(image, head, words);
             Listed::Records(count)
         }
     }
 }
 
-// The full list of document 01's passes.
-pub fn list(image: &[u8], words: &mut [u16]) -> Listed
-    ensures { ListedAll (old image) (old words) result (new words) }
-{
-    let none = [0u8; 0];
-    list_of(Asked::Three, image, &none, words)
-}
-
-// The full list of all four passes, where a byte per entry is lent.
-pub fn four_list(image: &[u8], authority: &[u8], words: &mut [u16]) -> Listed
-    ensures { ListedFor (four (old authority)) (old image) (old words) result (new words) }
-{
-    list_of(Asked::Four, image, authority, words)
-}
-
 // A pass's part of the list, from the buffer's start: what fits is written, all is counted.
-fn part_of(asked: Asked, pass: Pass, image: &[u8], authority: &[u8], words: &mut [u16]) -> Listed
-    ensures { ListedPartFor (asked_of asked (old authority)) (records_of pass (old authority)) (old image) (old words) result (new words) }
+fn part_of(pass: Pass, image: &[u8], words: &mut [u16]) -> Listed
+    ensures { ListedPart (records_of pass) (old image) (old words) result (new words) }
 {
-    match admit_for(asked, image, authority) {
+    match admission::admit(image) {
         Admission::Refused(r) => Listed::Refused(r),
-        Admission::Admitted(head) => {
-            Listed::Records(passes::list_of(pass, image, head, authority, words))
-        }
+        Admission::Admitted(head) => Listed::Records(passes::list_of(pass, image, head, words)),
     }
 }
 
@@ -191,31 +116,21 @@ fn part_of(asked: Asked, pass: Pass, image: &[u8], authority: &[u8], words: &mut
 pub fn resolve_list(image: &[u8], words: &mut [u16]) -> Listed
     ensures { ListedPart resolve (old image) (old words) result (new words) }
 {
-    let none = [0u8; 0];
-    part_of(Asked::Three, Pass::Resolve, image, &none, words)
+    part_of(Pass::Resolve, image, words)
 }
 
 // The access pass's part of the list.
 pub fn access_list(image: &[u8], words: &mut [u16]) -> Listed
     ensures { ListedPart access (old image) (old words) result (new words) }
 {
-    let none = [0u8; 0];
-    part_of(Asked::Three, Pass::Access, image, &none, words)
+    part_of(Pass::Access, image, words)
 }
 
 // The linear pass's part of the list.
 pub fn linear_list(image: &[u8], words: &mut [u16]) -> Listed
     ensures { ListedPart linear (old image) (old words) result (new words) }
 {
-    let none = [0u8; 0];
-    part_of(Asked::Three, Pass::Linear, image, &none, words)
-}
-
-// The conserve pass's part of the list.
-pub fn conserve_list(image: &[u8], authority: &[u8], words: &mut [u16]) -> Listed
-    ensures { ListedPartFor (four (old authority)) (conserve (old authority)) (old image) (old words) result (new words) }
-{
-    part_of(Asked::Four, Pass::Conserve, image, authority, words)
+    part_of(Pass::Linear, image, words)
 }
 
 fn yes_no(yes: bool) -> Reply

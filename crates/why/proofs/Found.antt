@@ -39,8 +39,8 @@ module _ {nodes : List ℕ} {place e : ℕ} (W : View nodes 0) (A : EntryAt W pl
   t = tree_of W
 
   -- no entry holds the place
-  pub no_entry : e ≡ 0 → NoLot t place
-  no_entry z f x r = let h = holds-place W.image place f x W.shown.admitted r in A.none z f r.0 h.0 h.1
+  pub no-entry : e ≡ 0 → NoLot t place
+  no-entry z f x r = let h = holds-place W.image place f x W.shown.admitted r in A.none z f r.0 h.0 h.1
 
   module _ (z : 0 < e) {n row : ℕ} {places first last : List ℕ} (R : Rows W.image (rows_of e t) n places first last) (F : RowAt n places place row) where
     -- no row of the entry stands there

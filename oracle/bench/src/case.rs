@@ -12,44 +12,40 @@ pub struct Case {
     pub name: &'static str,
     pub nodes: usize,
     pub image: Vec<u8>,
-    pub authority: Vec<u8>,
     pub contract: Contract,
 }
 
 impl Case {
     pub fn of(timed: &Timed) -> Case {
-        let (image, authority) = (timed.tree.image(), timed.authority());
-        assert_answers(timed, &image, &authority);
+        let image = timed.tree.image();
+        assert_answers(timed, &image);
         let contract = pack::unpack(&image).expect("admitted");
-        Case { name: timed.name, nodes: timed.tree.size(), image, authority, contract }
+        Case { name: timed.name, nodes: timed.tree.size(), image, contract }
     }
 }
 
 /// A pass of the library, called alone.
-pub fn alone(pass: Pass, image: &[u8], authority: &[u8]) -> Answer {
+pub fn alone(pass: Pass) -> fn(&[u8]) -> Answer {
     match pass {
-        Pass::Resolve => isonkaypu_sys::resolve(image),
-        Pass::Access => isonkaypu_sys::access(image),
-        Pass::Linear => isonkaypu_sys::linear(image),
-        Pass::Conserve => isonkaypu_sys::conserve(image, authority),
+        Pass::Resolve => isonkaypu_sys::resolve,
+        Pass::Access => isonkaypu_sys::access,
+        Pass::Linear => isonkaypu_sys::linear,
     }
 }
 
-fn assert_answers(timed: &Timed, image: &[u8], authority: &[u8]) {
-    let judged = reference::judge_with(image, authority).expect("admitted");
+fn assert_answers(timed: &Timed, image: &[u8]) {
+    let judged = reference::judge(image).expect("admitted");
     let contract = judge::contract(image).ok().expect("admitted");
     let model = Model::build(&contract);
-    judge::lend(authority);
-    let together = isonkaypu_sys::four_verdicts(image, authority);
+    let together = isonkaypu_sys::verdicts(image);
     assert_eq!(0, isonkaypu_sys::refusal(image), "{}", timed.name);
-    assert_eq!(together[..3], isonkaypu_sys::verdicts(image), "{}", timed.name);
-    for ((pass, code), answer) in Pass::FOUR.into_iter().zip(timed.codes).zip(together) {
+    for ((pass, code), answer) in Pass::ALL.into_iter().zip(timed.codes).zip(together) {
         let what = format!("{}: {}", timed.name, pass.word());
         let verdict = judged.verdict(pass);
         assert_eq!(code, verdict.code, "{what}");
         assert_eq!((code, verdict.place), judge::verdict(pass, &model), "{what} of the Rust");
         assert_eq!(expected(verdict), answer, "{what} of the library, with one admission");
-        assert_eq!(expected(verdict), alone(pass, image, authority), "{what} of the library, alone");
+        assert_eq!(expected(verdict), alone(pass)(image), "{what} of the library, alone");
     }
 }
 

@@ -4,21 +4,12 @@
 use generate::build::*;
 use generate::{Node, ident};
 use reference::image::MAX_NODES;
-use reference::kind::ENTRY;
 
 pub struct Timed {
     pub name: &'static str,
     pub tree: Node,
-    /// The codes that resolve, access, linear and conserve give, 0 where they accept.
-    pub codes: [u16; 4],
-}
-
-impl Timed {
-    /// The bytes of request E6 that are lent: every entry has protected authority.
-    pub fn authority(&self) -> Vec<u8> {
-        let entries = self.tree.children.iter().filter(|item| item.kind == ENTRY);
-        vec![1; entries.count()]
-    }
+    /// The codes that resolve, access and linear give, 0 where they accept.
+    pub codes: [u16; 3],
 }
 
 /// The sizes, in nodes, that each shape comes close to without going over.
@@ -36,19 +27,19 @@ pub fn of_size(nodes: usize) -> Vec<Timed> {
     let send = does(apply("send", vec![ident("to"), ident("lot")]));
     used_twice.children.push(entry_of(9_999, vec![send]));
     vec![
-        Timed { name: "accepted, one entry", codes: [0, 0, 0, 0], tree: one_entry(nodes) },
-        Timed { name: "accepted, many entries", codes: [0, 0, 0, 0], tree: many(nodes) },
-        Timed { name: "refused, 51 in the last entry", codes: [0, 51, 0, 0], tree: undeclared },
-        Timed { name: "refused, 62 in the last entry", codes: [0, 0, 62, 0], tree: used_twice },
+        Timed { name: "accepted, one entry", codes: [0, 0, 0], tree: one_entry(nodes) },
+        Timed { name: "accepted, many entries", codes: [0, 0, 0], tree: many(nodes) },
+        Timed { name: "refused, 51 in the last entry", codes: [0, 51, 0], tree: undeclared },
+        Timed { name: "refused, 62 in the last entry", codes: [0, 0, 62], tree: used_twice },
     ]
 }
 
 /// Entries of one name, by whose types alone rule 23 tells them apart.
 pub fn of_one_name() -> Vec<Timed> {
     vec![
-        Timed { name: "23: a State, then 510 of `a()`", codes: [23, 0, 0, 0], tree: behind_a_state() },
-        Timed { name: "341 of `a(T)`, T differs", codes: [0, 0, 0, 0], tree: each_of_its_type(341) },
-        Timed { name: "23: 204 of `a(T)`, then `a()`", codes: [23, 0, 0, 0], tree: behind_other_types() },
+        Timed { name: "23: a State, then 510 of `a()`", codes: [23, 0, 0], tree: behind_a_state() },
+        Timed { name: "341 of `a(T)`, T differs", codes: [0, 0, 0], tree: each_of_its_type(341) },
+        Timed { name: "23: 204 of `a(T)`, then `a()`", codes: [23, 0, 0], tree: behind_other_types() },
     ]
 }
 

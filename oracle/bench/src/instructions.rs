@@ -10,32 +10,30 @@ use std::hint::black_box;
 use std::process::Command;
 
 pub const INSTRUCTIONS: &str = "\
-| contract | nodes | admission | resolve | access | linear | conserve | three verdicts, one admission | a node | four verdicts | four / three |
-|---|---|---|---|---|---|---|---|---|---|---|";
+| contract | nodes | admission | resolve | access | linear | three verdicts, one admission | a node |
+|---|---|---|---|---|---|---|---|";
 
-/// The calls that are counted: admission, each pass alone, which admits too, three verdicts and four.
-const CALLS: usize = 7;
+/// The calls that are counted: admission, each pass alone, which admits too, and all verdicts.
+const CALLS: usize = 5;
 
 /// What callgrind is run on: a call of this number, so many times.
-pub fn calls(image: &[u8], authority: &[u8], call: usize, times: usize) {
+pub fn calls(image: &[u8], call: usize, times: usize) {
     for _ in 0..times {
-        let image = black_box(image);
         match call {
             0 => drop(black_box(admission(image))),
-            1..=4 => drop(black_box(alone(Pass::FOUR[call - 1], image, authority))),
-            5 => drop(black_box(isonkaypu_sys::verdicts(image))),
-            _ => drop(black_box(isonkaypu_sys::four_verdicts(image, authority))),
+            1..=3 => drop(black_box(alone(Pass::ALL[call - 1])(black_box(image)))),
+            _ => drop(black_box(isonkaypu_sys::verdicts(black_box(image)))),
         }
     }
 }
 
 pub fn row(number: usize, case: &Case) -> String {
     let counts: [u64; CALLS] = std::array::from_fn(|call| run(number, call, 2) - run(number, call, 1));
-    let [admission, passes @ .., three, four] = counts;
-    let passes = passes.map(|pass| (pass - admission).to_string()).join(" | ");
+    let [admission, passes @ .., all] = counts;
+    let [resolve, access, linear] = passes.map(|pass| pass - admission);
     let (name, nodes) = (case.name, case.nodes);
-    let (by_node, by_three) = (three as f64 / nodes as f64, four as f64 / three as f64);
-    format!("| {name} | {nodes} | {admission} | {passes} | {three} | {by_node:.1} | {four} | {by_three:.2} |")
+    let by_node = all as f64 / nodes as f64;
+    format!("| {name} | {nodes} | {admission} | {resolve} | {access} | {linear} | {all} | {by_node:.1} |")
 }
 
 /// The instructions of a whole run that makes a call on the contract of this number so many times.

@@ -1,6 +1,6 @@
 //! `bench`: the published Rust's `Model::build` and its three passes, on a contract made beforehand,
-//! against the proved library's calls, which admit the image too, and four passes beside the three; each pass
-//! alone; and what admission costs. The answers are asserted before anything is timed.
+//! against the proved library's calls, which admit the image too; each pass alone; and what admission
+//! costs. The answers are asserted before anything is timed.
 //!
 //! Build it with its own profile: `cargo run --offline --profile timing -p bench`. With the word
 //! `instructions` it counts instead of timing, by valgrind.
@@ -44,7 +44,7 @@ fn instructions() {
 fn calls(words: &[&str]) {
     let numbers: Vec<usize> = words.iter().map(|word| word.parse().expect("a number")).collect();
     let timed = all().nth(numbers[0]).expect("a contract of this number");
-    instructions::calls(&timed.tree.image(), &timed.authority(), numbers[1], numbers[2]);
+    instructions::calls(&timed.tree.image(), numbers[1], numbers[2]);
 }
 
 fn times() {

@@ -1,9 +1,7 @@
 //! The images that the comparisons run over: those written by hand first, then generated ones.
 
-use form::image::{Header, RawNode};
-use form::kind::ENTRY;
-use generate::patterns::{most_reasons, patterns, reasons, supplied};
-use generate::{Parts, Rng, admitted, authority, crowded, damaged, limits, minting, wrong_authority};
+use generate::patterns::{most_reasons, patterns, reasons};
+use generate::{Parts, Rng, admitted, crowded, damaged, limits};
 
 /// How many images, and from which seed.
 #[derive(Clone, Copy, Debug)]
@@ -25,12 +23,6 @@ pub fn of_reasons() -> Vec<(String, Vec<u8>)> {
     explained.chain(most).map(|(name, tree)| (format!("E3, {name}"), tree.image())).collect()
 }
 
-/// The images of request E6 that are written by hand.
-pub fn of_supply() -> Vec<(String, Vec<u8>)> {
-    let patterns = supplied().into_iter().map(|supplied| supplied.pattern);
-    patterns.map(|pattern| (format!("E6, {}", pattern.name), pattern.tree.image())).collect()
-}
-
 /// The `index`-th admitted image of a seed.
 pub fn admitted_image(seed: u64, index: u64) -> Vec<u8> {
     admitted(&mut Rng::of_image(seed, index))
@@ -39,11 +31,6 @@ pub fn admitted_image(seed: u64, index: u64) -> Vec<u8> {
 /// The `index`-th image of a seed in which lots crowd.
 pub fn crowded_image(seed: u64, index: u64) -> Vec<u8> {
     crowded(&mut Rng::of_image(seed, index))
-}
-
-/// The `index`-th image of a seed that makes supply.
-pub fn minting_image(seed: u64, index: u64) -> Vec<u8> {
-    minting(&mut Rng::of_image(seed, index))
 }
 
 /// The `index`-th damaged image of a seed.
@@ -59,13 +46,12 @@ pub fn by_hand_and_admitted(range: Range) -> impl Iterator<Item = (String, Vec<u
     by_hand().into_iter().chain(generated)
 }
 
-/// Every class: by hand, then of each eight generated ones four admitted as they come, one crowded, one that
-/// makes supply, two damaged.
+/// Every class: by hand, then of each eight generated ones five admitted as they come, one crowded, two
+/// damaged.
 pub fn all_classes(range: Range) -> impl Iterator<Item = (String, Vec<u8>)> {
     let generated = (0..range.images).map(move |index| match index % 8 {
         3 | 7 => (format!("damaged image {index} of seed {}", range.seed), damaged_image(range.seed, index)),
         5 => labelled_crowded(range.seed, index),
-        1 => labelled_minting(range.seed, index),
         _ => labelled(range.seed, index),
     });
     by_hand().into_iter().chain(of_reasons()).chain(generated)
@@ -87,33 +73,6 @@ fn labelled(seed: u64, index: u64) -> (String, Vec<u8>) {
 /// A crowded image with its label.
 pub fn labelled_crowded(seed: u64, index: u64) -> (String, Vec<u8>) {
     (format!("crowded image {index} of seed {seed}"), crowded_image(seed, index))
-}
-
-/// An image that makes supply with its label.
-pub fn labelled_minting(seed: u64, index: u64) -> (String, Vec<u8>) {
-    (format!("minting image {index} of seed {seed}"), minting_image(seed, index))
-}
-
-/// A generator of the image's own: what is drawn by it is drawn again wherever the image is asked about, and
-/// anew for each that is made of it.
-pub fn rng_of(image: &[u8]) -> Rng {
-    Rng::new(image.iter().fold(0, |sum, byte| sum * 31 % 65_521 + u64::from(*byte)))
-}
-
-/// The bytes of request E6 that are lent with an image: one for each entry.
-pub fn authority_of(image: &[u8]) -> Vec<u8> {
-    authority(&mut rng_of(image), entries(image))
-}
-
-/// Bytes that are refused with an image that is admitted.
-pub fn wrong_authority_of(image: &[u8]) -> Vec<u8> {
-    wrong_authority(&mut rng_of(image), entries(image))
-}
-
-/// How many nodes of an image are entries, as far as its bytes are nodes.
-fn entries(image: &[u8]) -> usize {
-    let nodes = Header::of(image).map_or(0, |header| header.nodes);
-    (0..nodes).map_while(|i| RawNode::of(image, i)).filter(|node| node.kind == ENTRY).count()
 }
 
 /// Names to ask about: each of an admitted image, the same in the other case, its prefixes, names

@@ -1,6 +1,5 @@
 //! The published Rust as the judge: an image becomes a contract whose spans are places, each pass
-//! is called alone, and an error's message tells the code. Before conserve is called, its bytes are lent
-//! (`lend`).
+//! is called alone, and an error's message tells the code.
 
 use crate::mismatch::{Mismatch, differ};
 use generate::Parts;
@@ -8,8 +7,7 @@ use quanta_ast::Contract;
 use quanta_lexer::Span;
 use quanta_typeck::error::TypeError;
 use quanta_typeck::model::Model;
-pub use quanta_typeck::signature::lend;
-use quanta_typeck::{access, conserve, linear, resolve};
+use quanta_typeck::{access, linear, resolve};
 use reference::{Pass, Question};
 
 /// The contract of an admitted image as the judge takes it: each node's span words are its number.
@@ -38,7 +36,6 @@ pub fn code_and_span(pass: Pass, model: &Model) -> (u16, Span) {
         Pass::Resolve => resolve::check(model),
         Pass::Access => access::check(model),
         Pass::Linear => linear::check(model),
-        Pass::Conserve => conserve::check(model),
     };
     match answer {
         Ok(()) => (0, Span { start: 0, end: 0 }),
@@ -54,7 +51,7 @@ pub fn ask(question: Question, model: &Model, name: &str) -> bool {
     }
 }
 
-/// How each message begins and what else it has, with the documents' number for it. The name that
+/// How each message begins and what else it has, with document 01's number for it. The name that
 /// stands in a message is an identifier, so it can hold none of these words.
 const MESSAGES: &[(&str, &str, u16)] = &[
     ("state field `", "` is declared more than once", 20),
@@ -83,9 +80,6 @@ const MESSAGES: &[(&str, &str, u16)] = &[
     ("a let that aliases an existing asset is not supported", "", 60),
     ("asset `", "` is never consumed", 61),
     ("asset `", "` is used more than once", 62),
-    ("conservation: a genesis constructor cannot mint supply", "", 70),
-    ("conservation: this creates supply but the entry does not declare `mints`", "", 71),
-    ("conservation: entry `", "` mints supply without protected authority", 72),
 ];
 
 /// The code of a message; 0xffff for one that nobody knows, which no reference gives.

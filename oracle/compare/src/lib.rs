@@ -1,5 +1,5 @@
-//! The comparisons: the reference against the published Rust (`rust`), against what documents 01 and 02
-//! say by hand (`patterns`), against the report program (`report`), against the proved library
+//! The comparisons: the reference against the published Rust (`rust`), against what document 01
+//! says by hand (`patterns`), against the report program (`report`), against the proved library
 //! (`port`) and, in what consumes a counted occurrence and in why a lot is refused, against ways of
 //! their own (`consumers`, `why`); and the page's crate against the published Rust (`page`).
 
@@ -16,7 +16,6 @@ pub mod why;
 mod dump;
 pub mod mismatch;
 pub mod shrink;
-mod supply;
 mod tally;
 
 pub use dump::dump;

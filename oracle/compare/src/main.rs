@@ -8,7 +8,7 @@ const USAGE: &str = "\
 compare rust [--images N] [--seed S]
     the reference against the published Rust
 compare patterns
-    what documents 01 and 02 say by hand against both
+    what document 01 says by hand against both
 compare consumers [--images N] [--seed S]
     what the reference finds to consume each counted occurrence against what one finds on the way up
 compare why [--images N] [--seed S]
@@ -18,8 +18,7 @@ compare report PATH [--status] [--images N] [--seed S]
     the reference against the report program at PATH, and against its exit status where that is asked for
 compare port [--what GROUP,GROUP..] [--images N] [--seed S]
     the reference against the proved library, in all groups or in those named: refusal, questions,
-    verdicts, resolve, access, linear, list, resolve_list, access_list, linear_list, why, and with lent
-    bytes conserve, four_verdicts, four_list, conserve_list
+    verdicts, resolve, access, linear, list, resolve_list, access_list, linear_list, why
 compare page [--images N] [--seed S]
     the page's crate against the published Rust, on generated contracts
 compare show FILE

@@ -11,14 +11,6 @@ pub struct Mismatch {
     pub other: String,
 }
 
-impl Mismatch {
-    /// The same, with the bytes that were lent: how many, and the first of them.
-    pub fn lent(self, authority: &[u8]) -> Mismatch {
-        let first = &authority[..authority.len().min(16)];
-        Mismatch { what: format!("{}, lent {} bytes: {first:?}", self.what, authority.len()), ..self }
-    }
-}
-
 /// A comparison of one image.
 pub type Check<'a> = dyn Fn(&[u8]) -> Result<(), Mismatch> + 'a;
 

@@ -1,10 +1,9 @@
 //! `compare patterns`: what document 01 says by hand of P1 to P14, of its tempting mistakes, of the
-//! settled readings and of the limits, and document 02 of lent bytes, against the reference and, for verdicts,
-//! the Rust.
+//! settled readings and of the limits, against the reference and, for verdicts, the Rust.
 
 use crate::judge;
 use crate::mismatch::{Mismatch, same};
-use generate::patterns::{Pattern, Refused, Supplied, p2, patterns, refused, reported, supplied};
+use generate::patterns::{Pattern, p2, patterns, reported};
 use generate::{Limit, limits};
 use quanta_typeck::model::Model;
 use reference::{Judged, Pass, Record};
@@ -22,18 +21,12 @@ pub fn run() -> Result<String, String> {
             failures.push(format!("{name}: {what}: expected {reference}, got {other}"));
         }
     };
-    let (patterns, limits, supplied, refused) = (patterns(), limits(), supplied(), refused());
+    let (patterns, limits) = (patterns(), limits());
     for pattern in &patterns {
         note(pattern.name, pattern_holds(pattern));
     }
     for limit in &limits {
         note(&limit.name, limit_holds(limit));
-    }
-    for supplied in &supplied {
-        note(supplied.pattern.name, supplied_holds(supplied));
-    }
-    for refused in &refused {
-        note(refused.name, refused_holds(refused));
     }
     note("P2's bytes", same("length", 172, p2().image().len()));
     note("P2's report", same("text", P2_REPORT, &reference::report(&p2().image())));
@@ -41,46 +34,29 @@ pub fn run() -> Result<String, String> {
         note(pattern.name, same("the report", report, &reference::report(&pattern.tree.image())));
     }
     if failures.is_empty() {
-        let by_01 = format!("{} patterns and {} limits hold\n", patterns.len(), limits.len());
-        let (lists, refusals) = (supplied.len(), refused.len());
-        Ok(by_01 + &format!("{lists} lists with lent bytes and {refusals} refusals of such hold\n"))
+        Ok(format!("{} patterns and {} limits hold\n", patterns.len(), limits.len()))
     } else {
         Err(failures.join("\n") + "\n")
     }
 }
 
+/// The reference gives the whole list, and each pass of the Rust gives the first of its part.
 fn pattern_holds(pattern: &Pattern) -> Result<(), Mismatch> {
     let image = pattern.tree.image();
-    list_holds(pattern, &image, reference::judge(&image), &Pass::THREE)
-}
-
-fn supplied_holds(Supplied { pattern, authority }: &Supplied) -> Result<(), Mismatch> {
-    let image = pattern.tree.image();
-    judge::lend(authority);
-    list_holds(pattern, &image, reference::judge_with(&image, authority), &Pass::FOUR)
-}
-
-/// The reference gives the whole list, and each pass of the Rust gives the first of its part.
-fn list_holds(
-    pattern: &Pattern,
-    image: &[u8],
-    judged: Result<Judged, u8>,
-    passes: &[Pass],
-) -> Result<(), Mismatch> {
     let expected = pattern.list();
-    let judged = match judged {
+    let judged = match reference::judge(&image) {
         Ok(judged) => judged,
         Err(refusal) => return same("the refusal", 0, refusal),
     };
     let listed: Vec<[u16; 4]> = judged.list().iter().map(Record::words).collect();
     same("the reference's list", &expected, &listed)?;
     room_holds(&judged, &expected)?;
-    let contract = judge::contract(image)?;
+    let contract = judge::contract(&image)?;
     let model = Model::build(&contract);
-    for pass in passes {
-        let first = expected.iter().find(|[code, ..]| pass_of(*code) == *pass);
+    for pass in Pass::ALL {
+        let first = expected.iter().find(|[code, ..]| pass_of(*code) == pass);
         let verdict = first.map_or((0, 0), |[code, place, ..]| (*code, *place));
-        same(&format!("the Rust's {}", pass.word()), verdict, judge::verdict(*pass, &model))?;
+        same(&format!("the Rust's {}", pass.word()), verdict, judge::verdict(pass, &model))?;
     }
     Ok(())
 }
@@ -96,24 +72,15 @@ fn room_holds(judged: &Judged, expected: &[[u16; 4]]) -> Result<(), Mismatch> {
     }
 }
 
-/// The pass that a code is of: 20 to 40, 50 and 51, 60 to 62, 70 to 72.
+/// The pass that a code is of: 20 to 40, 50 and 51, 60 to 62.
 fn pass_of(code: u16) -> Pass {
     match code {
         0..50 => Pass::Resolve,
         50..60 => Pass::Access,
-        60..70 => Pass::Linear,
-        _ => Pass::Conserve,
+        _ => Pass::Linear,
     }
 }
 
 fn limit_holds(limit: &Limit) -> Result<(), Mismatch> {
     same("the refusal", limit.refusal, reference::refusal(&limit.image))
-}
-
-/// The number that refuses; refusals "change no lent memory".
-fn refused_holds(refused: &Refused) -> Result<(), Mismatch> {
-    let mut words = vec![7; refused.words];
-    let answer = reference::four_list(&refused.tree.image(), refused.authority, &mut words);
-    same("the refusal", Err(refused.refusal), answer)?;
-    same("the words", vec![7; refused.words], words)
 }

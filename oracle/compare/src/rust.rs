@@ -2,12 +2,10 @@
 //! images are there too: those that are still admitted are compared, the others are tallied.
 
 use crate::images::{
-    Range, admitted_image, authority_of, by_hand, damaged_image, labelled_crowded, labelled_minting,
-    names_to_ask, of_reasons, of_supply,
+    Range, admitted_image, by_hand, damaged_image, labelled_crowded, names_to_ask, of_reasons,
 };
 use crate::judge;
 use crate::mismatch::{Mismatch, same, shown};
-use crate::supply;
 use crate::tally::Tally;
 use generate::Rng;
 use quanta_typeck::model::Model;
@@ -16,7 +14,7 @@ use reference::{Judged, Pass, Question};
 /// Runs the comparison; the text is what to print, and an `Err` is a failure.
 pub fn run(range: Range) -> Result<String, String> {
     let mut tally = Tally::new();
-    for (label, image) in by_hand().into_iter().chain(of_reasons()).chain(of_supply()) {
+    for (label, image) in by_hand().into_iter().chain(of_reasons()) {
         compare_one(&label, &image, &mut tally)?;
     }
     for index in 0..range.images {
@@ -30,17 +28,12 @@ pub fn run(range: Range) -> Result<String, String> {
             let (label, image) = labelled_crowded(range.seed, index);
             compare_one(&label, &image, &mut tally)?;
         }
-        if index % 8 == 1 {
-            let (label, image) = labelled_minting(range.seed, index);
-            compare_one(&label, &image, &mut tally)?;
-        }
     }
     tally.finish()
 }
 
 fn compare_one(label: &str, image: &[u8], tally: &mut Tally) -> Result<(), String> {
-    let authority = authority_of(image);
-    let judged = match reference::judge_with(image, &authority) {
+    let judged = match reference::judge(image) {
         Ok(judged) => judged,
         Err(refusal) => {
             tally.refused(refusal);
@@ -48,32 +41,27 @@ fn compare_one(label: &str, image: &[u8], tally: &mut Tally) -> Result<(), Strin
         }
     };
     let listed: Vec<u16> = judged.list().iter().map(|record| record.code).collect();
-    tally.admitted(Pass::FOUR.map(|pass| judged.verdict(pass).code), &listed);
-    agree(image, &authority, &judged).map_err(|_| shown(label, image, &agree_on))
+    tally.admitted(Pass::ALL.map(|pass| judged.verdict(pass).code), &listed);
+    agree(image, &judged).map_err(|_| shown(label, image, &agree_on))
 }
 
 /// Whether the two agree on an image; a refused one is not the Rust's matter.
 pub fn agree_on(image: &[u8]) -> Result<(), Mismatch> {
-    let authority = authority_of(image);
-    match reference::judge_with(image, &authority) {
-        Ok(judged) => agree(image, &authority, &judged),
+    match reference::judge(image) {
+        Ok(judged) => agree(image, &judged),
         Err(_) => Ok(()),
     }
 }
 
-/// Verdict and place of each pass, all that conserve finds, the questions, and that the image comes back from
-/// its contract.
-fn agree(image: &[u8], authority: &[u8], judged: &Judged) -> Result<(), Mismatch> {
+/// Verdict and place of each pass, the questions, and that the image comes back from its contract.
+fn agree(image: &[u8], judged: &Judged) -> Result<(), Mismatch> {
     let contract = judge::contract(image)?;
     let model = Model::build(&contract);
-    judge::lend(authority);
-    for pass in Pass::FOUR {
+    for pass in Pass::ALL {
         let verdict = judged.verdict(pass);
         let what = format!("{}: code and place", pass.word());
-        let compared = same(&what, (verdict.code, verdict.place), judge::verdict(pass, &model));
-        compared.map_err(|mismatch| mismatch.lent(authority))?;
+        same(&what, (verdict.code, verdict.place), judge::verdict(pass, &model))?;
     }
-    supply::agree(image, authority, judged).map_err(|mismatch| mismatch.lent(authority))?;
     questions_agree(image, judged, &model)?;
     comes_back(image)
 }

@@ -2,19 +2,16 @@
 //! how often each pass accepted, how often each refusal was given. A comparison that never saw a
 //! rule at work has compared nothing, so too few of anything is a failure.
 
-use generate::{CODES, SUPPLY_CODES};
+use generate::CODES;
 use reference::Pass;
 use std::fmt::Write;
-
-/// One past the highest code.
-const CODES_END: usize = 73;
 
 #[derive(Default)]
 pub struct Tally {
     admitted: u64,
     refused: u64,
     refusals: [u64; 9],
-    accepted: [u64; 4],
+    accepted: [u64; 3],
     first: Vec<u64>,
     listed: Vec<u64>,
     longest: usize,
@@ -22,7 +19,7 @@ pub struct Tally {
 
 impl Tally {
     pub fn new() -> Tally {
-        Tally { first: vec![0; CODES_END], listed: vec![0; CODES_END], ..Tally::default() }
+        Tally { first: vec![0; 64], listed: vec![0; 64], ..Tally::default() }
     }
 
     pub fn refused(&mut self, refusal: u8) {
@@ -31,7 +28,7 @@ impl Tally {
     }
 
     /// An image that was admitted: the code of each pass's verdict, and all codes of the list.
-    pub fn admitted(&mut self, verdicts: [u16; 4], listed: &[u16]) {
+    pub fn admitted(&mut self, verdicts: [u16; 3], listed: &[u16]) {
         self.admitted += 1;
         self.longest = self.longest.max(listed.len());
         for (pass, code) in verdicts.into_iter().enumerate() {
@@ -55,11 +52,11 @@ impl Tally {
     fn wanted(&self) -> Vec<Wanted> {
         let mut wanted = Vec::new();
         let mut want = |what: String, count: u64, least: u64| wanted.push((what, count, least));
-        for code in codes() {
+        for code in CODES {
             let count = self.first[code as usize];
             want(format!("code {code} as the first of its pass"), count, self.admitted / 500);
         }
-        for pass in Pass::FOUR {
+        for pass in Pass::ALL {
             let count = self.accepted[pass as usize];
             want(format!("{} accepts", pass.word()), count, self.admitted / 10);
         }
@@ -74,11 +71,11 @@ impl Tally {
         let mut out = String::new();
         let mut line = |text: String| writeln!(out, "{text}").expect("a String takes any text");
         line(format!("admitted {}, refused {}", self.admitted, self.refused));
-        for pass in Pass::FOUR {
+        for pass in Pass::ALL {
             line(format!("{} accepts {}", pass.word(), self.accepted[pass as usize]));
         }
         line("code      first     listed".to_string());
-        for code in codes() {
+        for code in CODES {
             let (first, listed) = (self.first[code as usize], self.listed[code as usize]);
             line(format!("{code:>4} {first:>10} {listed:>10}"));
         }
@@ -87,11 +84,6 @@ impl Tally {
         line(format!("longest list {}", self.longest));
         out
     }
-}
-
-/// The codes of the four passes.
-fn codes() -> impl Iterator<Item = u16> {
-    CODES.into_iter().chain(SUPPLY_CODES)
 }
 
 /// What a comparison must have met, how often it came, and how often it is wanted at the least.

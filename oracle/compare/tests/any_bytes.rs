@@ -1,46 +1,12 @@
 //! The reference answers for any bytes, and its answers hang together.
 
-use compare::images::{Range, all_classes, authority_of, names_to_ask};
+use compare::images::{Range, all_classes, names_to_ask};
 use generate::Rng;
 use reference::tree::Tree;
-use reference::{Pass, Question, RECORD_WORDS, four_list, judge, judge_with, kind};
-use reference::{list, question, refusal, report, verdict};
-
-/// Request E6 with any bytes lent: the refusals in their order, or the list of three passes with conserve's
-/// part behind it, related 0.
-fn ask_with_bytes(image: &[u8], rng: &mut Rng) {
-    let any = (0..rng.below(4)).map(|_| rng.below(3) as u8).collect();
-    let authority = if rng.one_in(2) { authority_of(image) } else { any };
-    let mut words = vec![7; rng.below(40)];
-    let before = words.clone();
-    let listed = four_list(image, &authority, &mut words);
-    let expected = match (judge(image), judge_with(image, &authority)) {
-        (Err(refused), four) => {
-            assert_eq!(four.err(), Some(refused));
-            Err(refused)
-        }
-        (Ok(three), Err(refused)) => {
-            let entries = three.tree.entries().len();
-            assert_eq!(refused, 15);
-            assert!(authority.len() != entries || authority.iter().any(|byte| *byte > 1));
-            Err(15)
-        }
-        (Ok(three), Ok(four)) => {
-            let supply = four.part(Pass::Conserve);
-            assert!(supply.iter().all(|r| (70..=72).contains(&r.code) && r.related == 0));
-            let all = [&three.list(), supply].concat();
-            assert_eq!(four.list(), all);
-            if words.len() < RECORD_WORDS * all.len() { Err(9) } else { Ok(all.len()) }
-        }
-    };
-    assert_eq!(listed, expected);
-    let written = RECORD_WORDS * listed.unwrap_or(0);
-    assert_eq!(words[written..], before[written..]);
-}
+use reference::{Pass, Question, RECORD_WORDS, judge, kind, list, question, refusal, report, verdict};
 
 /// Asks everything there is to ask.
 fn ask_all(image: &[u8], rng: &mut Rng) {
-    ask_with_bytes(image, rng);
     let refused = refusal(image);
     assert!(refused <= 8);
     let mut words = vec![7; rng.below(40)];
@@ -64,7 +30,7 @@ fn ask_all(image: &[u8], rng: &mut Rng) {
     for record in records {
         assert_eq!(usize::from(record.entry), entry_above(&judged.tree, record.place.into()), "{record:?}");
     }
-    for pass in Pass::THREE {
+    for pass in Pass::ALL {
         let code = verdict(pass, image).expect("admitted").code;
         assert_eq!(code, judged.part(pass).first().map_or(0, |r| r.code));
     }

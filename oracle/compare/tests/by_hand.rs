@@ -5,11 +5,11 @@ use compare::judge;
 use compare::shrink::shrink;
 use generate::CODES;
 use generate::build::*;
-use generate::patterns::{Pattern, Refused, patterns, refused, supplied};
+use generate::patterns::{Pattern, patterns};
 use quanta_typeck::conserve;
 use quanta_typeck::model::Model;
 use quanta_typeck::signature::lend;
-use reference::{Judged, Pass, Record, kind};
+use reference::{Judged, Pass, kind};
 
 #[test]
 fn patterns_and_limits_hold() {
@@ -22,10 +22,6 @@ fn patterns_and_limits_hold() {
 fn each_rule_is_broken_twice_in_an_item() {
     for code in CODES.into_iter().filter(|code| ![21, 23].contains(code)) {
         assert!(patterns().iter().any(|p| twice_in_an_item(p, code)), "code {code}");
-    }
-    // 72 stands at an entry's first Mints clause
-    for code in [70, 71] {
-        assert!(supplied().iter().any(|s| twice_in_an_item(&s.pattern, code)), "code {code}");
     }
 }
 
@@ -47,16 +43,6 @@ fn the_library_agrees_in_the_groups_that_there_are() {
     assert_eq!(compare::port::run(None, by_hand).err(), None);
 }
 
-/// What request E6 refuses by hand, the library refuses too.
-#[test]
-fn the_library_refuses_lent_bytes() {
-    for Refused { name, tree, authority, words, refusal } in refused() {
-        let mut lent = vec![7; words];
-        let answer = isonkaypu_sys::four_list(&tree.image(), authority, &mut lent);
-        assert_eq!((answer, lent), ((refusal.into(), 0), vec![7; words]), "{name}");
-    }
-}
-
 /// The run fails as well when a code, an acceptance or a refusal comes too seldom.
 #[test]
 fn the_rust_agrees_and_every_code_is_reached() {
@@ -69,17 +55,11 @@ fn the_rust_agrees_and_every_code_is_reached() {
 /// Wrong readings of request E8 show on generated images too.
 #[test]
 fn generated_places_tell_entries_apart() {
-    each_is_shown(|index| {
-        let image = compare::images::admitted_image(9, index);
-        entry_words_shown(&reference::judge(&image).expect("admitted"))
-    });
-}
-
-/// Of 2,000 images each thing to show is shown by 40 or more.
-fn each_is_shown<const N: usize>(shows: impl Fn(u64) -> [bool; N]) {
-    let mut shown = [0; N];
+    let mut shown = [0; 4];
     for index in 0..2_000 {
-        shown.iter_mut().zip(shows(index)).for_each(|(images, shows)| *images += usize::from(shows));
+        let image = compare::images::admitted_image(9, index);
+        let shows = entry_words_shown(&reference::judge(&image).expect("admitted"));
+        shown.iter_mut().zip(shows).for_each(|(images, shows)| *images += usize::from(shows));
     }
     assert!(shown.iter().all(|images| *images >= 40), "{shown:?}");
 }
@@ -99,41 +79,12 @@ fn entry_words_shown(judged: &Judged) -> [bool; 4] {
     ]
 }
 
-/// .. and so do those of request E6 that no verdict shows.
-#[test]
-fn generated_supply_tells_lists_apart() {
-    each_is_shown(|index| {
-        let image = compare::images::minting_image(9, index);
-        let authority = compare::images::authority_of(&image);
-        supply_shown(&reference::judge_with(&image, &authority).expect("a byte for each entry"))
-    });
-}
-
-/// Whether a 72 stands at one of several clauses, an entry has several 71s, a 70 stands in front of what
-/// comes before it in the list, and 70s stand in several Genesis blocks.
-fn supply_shown(judged: &Judged) -> [bool; 4] {
-    let (tree, supply) = (&judged.tree, judged.part(Pass::Conserve));
-    let of = |code: u16| supply.iter().filter(move |record| record.code == code);
-    let clauses = |entry: u16| tree.children_of(entry.into(), |k| k == kind::MINTS).len();
-    let calls = |entry: u16| of(71).filter(|record| record.entry == entry).count();
-    let has_a_70 =
-        |genesis: &&usize| of(70).any(|r| (**genesis..tree.end(**genesis)).contains(&r.place.into()));
-    let in_front = |genesis: &Record| supply.iter().any(|r| r.entry != 0 && r.place > genesis.place);
-    [
-        of(72).any(|record| clauses(record.entry) > 1),
-        of(71).any(|record| calls(record.entry) > 1),
-        of(70).any(in_front),
-        tree.items(kind::GENESIS).iter().filter(has_a_70).count() > 1,
-    ]
-}
-
 /// A comparison that passes over refused images would pass over these.
 #[test]
-fn crowded_and_minting_images_are_admitted() {
+fn crowded_images_are_admitted() {
     for index in 0..2_000 {
-        for image in [compare::images::crowded_image(3, index), compare::images::minting_image(3, index)] {
-            assert_eq!(reference::refusal(&image), 0, "image {index}");
-        }
+        let image = compare::images::crowded_image(3, index);
+        assert_eq!(reference::refusal(&image), 0, "image {index}");
     }
 }
 

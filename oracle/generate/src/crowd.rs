@@ -4,7 +4,6 @@
 //! statements.
 
 use crate::build::*;
-use crate::entry_parts::EntryParts;
 use crate::rng::Rng;
 use crate::words::*;
 use crate::{Node, ident, number};
@@ -50,18 +49,25 @@ impl<'r> Crowd<'r> {
     }
 
     fn add_to(&mut self, entry: &mut Node) {
-        let mut parts = EntryParts::of(entry);
-        self.mix(&mut parts.params, 4, Self::param);
-        self.mix(&mut parts.clauses, 4, Self::clause);
-        self.mix(&mut parts.statements, 5, Self::statement);
-        parts.put_back(entry);
+        let mut parts = std::mem::take(&mut entry.children);
+        let before = |is: fn(u8) -> bool| parts.iter().take_while(|part| !is(part.kind)).count();
+        let first_clause = before(|k| kind::is_clause(k) || kind::is_statement(k));
+        let first_statement = before(kind::is_statement);
+        let mut statements = parts.split_off(first_statement);
+        let mut clauses = parts.split_off(first_clause);
+        // what is left is the entry's Name and its parameters
+        let mut params = parts.split_off(1);
+        self.mix(&mut params, 4, Self::param);
+        self.mix(&mut clauses, 4, Self::clause);
+        self.mix(&mut statements, 5, Self::statement);
+        entry.children = [parts, params, clauses, statements].concat();
     }
 
     /// Puts up to `most` new nodes between those that are there.
     fn mix(&mut self, among: &mut Vec<Node>, most: usize, make: fn(&mut Self) -> Node) {
         for _ in 0..self.rng.between(0, most) {
             let made = make(self);
-            self.rng.insert(among, made);
+            among.insert(self.rng.between(0, among.len()), made);
         }
     }
 

@@ -1,18 +1,15 @@
 //! Images to compare by, all from a seed: admitted ones (`admitted`), those in which lots share names
-//! and clauses (`crowded`), those that make supply (`minting`), the limits of document 01 on both sides (`limits`), damaged ones
+//! and clauses (`crowded`), the limits of document 01 on both sides (`limits`), damaged ones
 //! (`damaged`), and contracts written by hand with what the page says of them (`patterns`). What an
-//! image does not carry is put into a contract by `fill`; the bytes that are lent with one are
-//! `authority`'s.
+//! image does not carry is put into a contract by `fill`.
 
 pub mod build;
 pub mod patterns;
 pub mod words;
 
-mod authority;
 mod body;
 mod crowd;
 mod damage;
-mod entry_parts;
 mod expression;
 mod fill;
 mod limits;
@@ -21,11 +18,9 @@ mod node;
 mod parts;
 mod rng;
 mod samples;
-mod supply;
 mod taste;
 mod wild;
 
-pub use authority::{authority, wrong_authority};
 pub use damage::damaged;
 pub use fill::fill;
 pub use limits::{Limit, largest, limits, of_names};
@@ -33,7 +28,6 @@ pub use node::{Node, ident, leaf, name, node, number};
 pub use parts::Parts;
 pub use rng::Rng;
 pub use samples::ward;
-pub use supply::SUPPLY_CODES;
 pub use taste::CODES;
 
 use form::image::{MAX_ANCESTORS, MAX_NAMES, MAX_NODES, MAX_TEXT};
@@ -55,13 +49,6 @@ pub fn tree(rng: &mut Rng) -> Node {
 pub fn crowded(rng: &mut Rng) -> Vec<u8> {
     let mut contract = contract(rng);
     crowd::crowd(rng, &mut contract);
-    finished(contract, rng).image()
-}
-
-/// An image that is admitted, and whose entries and Genesis blocks make supply.
-pub fn minting(rng: &mut Rng) -> Vec<u8> {
-    let mut contract = contract(rng);
-    supply::supply(rng, &mut contract);
     finished(contract, rng).image()
 }
 

@@ -48,11 +48,6 @@ impl Rng {
         self.pick::<&'static str>(pool)
     }
 
-    /// Puts an item anywhere among those that are there.
-    pub fn insert<T>(&mut self, among: &mut Vec<T>, item: T) {
-        among.insert(self.between(0, among.len()), item);
-    }
-
     pub fn shuffle<T>(&mut self, items: &mut [T]) {
         for k in (1..items.len()).rev() {
             items.swap(k, self.below(k + 1));

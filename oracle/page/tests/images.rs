@@ -1,11 +1,10 @@
 //! Images of every class: written by hand, generated, damaged, and bytes that are none. What the
 //! crate says is what the plain reading of document 01 says, and nothing panics.
 
-use generate::patterns::{Pattern, Supplied, patterns, supplied};
-use generate::{Rng, admitted, authority, damaged, limits, minting};
-use isonkaypu::{AuthorityError, ImageRefusal, Offence, Place, Report};
-use isonkaypu::{check, check_image, check_image_with_authority};
-use reference::{Judged, Pass, Question, Record, judge, judge_with};
+use generate::patterns::patterns;
+use generate::{Rng, admitted, damaged, limits};
+use isonkaypu::{ImageRefusal, Offence, Pass, Place, Report, check, check_image};
+use reference::{Question, Record};
 
 fn record(offence: &Offence) -> Record {
     let number = |place: Option<Place>| place.map_or(0, |place| place.node) as u16;
@@ -22,38 +21,21 @@ fn records(report: &Report) -> Vec<Record> {
     report.offences().iter().map(record).collect()
 }
 
-/// The report with the authority that these bytes lend, or the number that refuses.
-fn check_with(image: &[u8], bytes: &[u8]) -> Result<Report, u8> {
-    let protected: Vec<bool> = bytes.iter().map(|byte| *byte == 1).collect();
-    check_image_with_authority(image, &protected).map_err(|error| match error {
-        AuthorityError::NoImage(refusal) => refusal.number(),
-        _ => 15,
-    })
-}
-
-/// Holds a report, or a refusal, against the plain reading: without authority, with one for each entry, and
-/// with one too many.
+/// Holds a report, or a refusal, against the plain reading.
 fn hold(image: &[u8]) {
-    hold_to(image, check_image(image).map_err(ImageRefusal::number), judge(image));
-    let entries = reference::admit(image).map_or(0, |tree| tree.entries().len());
-    let mut bytes = authority(&mut Rng::new(image.len() as u64), entries);
-    hold_to(image, check_with(image, &bytes), judge_with(image, &bytes));
-    bytes.push(1);
-    hold_to(image, check_with(image, &bytes), judge_with(image, &bytes));
-}
-
-fn hold_to(image: &[u8], checked: Result<Report, u8>, judged: Result<Judged, u8>) {
-    let (report, judged) = match (checked, judged) {
-        (Err(said), Err(number)) => return assert_eq!(said, number),
-        (Ok(report), Ok(judged)) => (report, judged),
+    let report = match (check_image(image), reference::judge(image)) {
+        (Err(refusal), Err(number)) => return assert_eq!(refusal.number(), number),
+        (Ok(report), Ok(judged)) => {
+            assert_eq!(records(&report), judged.list());
+            for (pass, same) in Pass::ALL.iter().copied().zip(reference::Pass::ALL) {
+                let (said, read) = (report.verdict(pass), judged.verdict(same));
+                let words = (said.code, said.place.node, said.place.span.start, said.place.span.end);
+                assert_eq!(words, (read.code, usize::from(read.place), read.from, read.to));
+            }
+            report
+        }
         (report, judged) => panic!("{report:?} and {:?}", judged.err()),
     };
-    assert_eq!(records(&report), judged.list());
-    for ((_, said), pass) in report.verdicts().zip(Pass::FOUR) {
-        let read = judged.verdict(pass);
-        let words = (said.code, said.place.node, said.place.span.start, said.place.span.end);
-        assert_eq!(words, (read.code, usize::from(read.place), read.from, read.to));
-    }
     assert_eq!(report.doubts(), []);
     assert_eq!(report.accepted(), report.offences().is_empty());
     assert_eq!(report.image(), image);
@@ -68,25 +50,12 @@ fn hold_to(image: &[u8], checked: Result<Report, u8>, judged: Result<Judged, u8>
 fn every_pattern_has_the_list_that_the_page_gives_it() {
     for pattern in patterns() {
         let image = pattern.tree.image();
-        list_is(&pattern, &check_image(&image).expect("admitted"));
+        let report = check_image(&image).expect("admitted");
+        let words: Vec<[u16; 4]> = records(&report).iter().map(Record::words).collect();
+        assert_eq!(words, pattern.list(), "{}", pattern.name);
+        assert_eq!(report.accepted(), pattern.list().is_empty(), "{}", pattern.name);
         hold(&image);
     }
-}
-
-/// Request E6's contracts, with the authority that goes with them.
-#[test]
-fn every_pattern_with_authority_has_its_list() {
-    for Supplied { pattern, authority } in supplied() {
-        let image = pattern.tree.image();
-        list_is(&pattern, &check_with(&image, authority).expect("one for each entry"));
-        hold(&image);
-    }
-}
-
-fn list_is(pattern: &Pattern, report: &Report) {
-    let words: Vec<[u16; 4]> = records(report).iter().map(Record::words).collect();
-    assert_eq!(words, pattern.list(), "{}", pattern.name);
-    assert_eq!(report.accepted(), pattern.list().is_empty(), "{}", pattern.name);
 }
 
 /// A pattern as a contract gives the same report as its image.
@@ -115,7 +84,6 @@ fn generated_images() {
         let image = admitted(&mut rng);
         hold(&image);
         hold(&damaged(&mut rng, &image));
-        hold(&minting(&mut rng));
     }
 }
 

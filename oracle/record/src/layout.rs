@@ -50,7 +50,7 @@ fn write_image(image: &[u8], out: &mut Vec<u8>) {
     out.extend(image);
     let judged = reference::judge(image);
     out.push(judged.as_ref().err().copied().unwrap_or(0));
-    for pass in Pass::THREE {
+    for pass in Pass::ALL {
         let verdict = judged.as_ref().map(|j| j.verdict(pass));
         write_verdict(&verdict.unwrap_or_default(), out);
     }

@@ -2,8 +2,8 @@
 //! for any bytes. It was written from the page and from the readings that docs/RULES.md settles,
 //! not from the published Rust, so that the two can judge each other.
 //!
-//! `admission` holds refusals 1 to 8, `model` the three questions, `resolve`, `access`, `linear` and
-//! `conserve` the offences (`linear` also what consumes a counted occurrence), `record` what the list has of
+//! `admission` holds refusals 1 to 8, `model` the three questions, `resolve`, `access` and
+//! `linear` the offences (`linear` also what consumes a counted occurrence), `record` what the list has of
 //! each, `why` what makes a tracked asset unused or used more than once, `report` the program's text; this
 //! file holds what the public functions answer.
 
@@ -12,7 +12,6 @@ pub mod image;
 pub mod tree;
 
 mod access;
-mod conserve;
 mod linear;
 mod model;
 mod offence;
@@ -35,27 +34,22 @@ use tree::Tree;
 /// "with a list buffer of 32,768 words"
 pub const LIST_WORDS: usize = 32_768;
 
-/// "Passes run as resolve, access, linear", and by request E6 conserve "after the linear ones".
+/// "Passes run as resolve, access, linear"
 #[derive(Clone, Copy, Debug, PartialEq, Eq)]
 pub enum Pass {
     Resolve,
     Access,
     Linear,
-    Conserve,
 }
 
 impl Pass {
-    /// The passes of document 01.
-    pub const THREE: [Pass; 3] = [Pass::Resolve, Pass::Access, Pass::Linear];
-    /// "four passes" for callers who lend the bytes
-    pub const FOUR: [Pass; 4] = [Pass::Resolve, Pass::Access, Pass::Linear, Pass::Conserve];
+    pub const ALL: [Pass; 3] = [Pass::Resolve, Pass::Access, Pass::Linear];
 
     pub fn word(self) -> &'static str {
         match self {
             Pass::Resolve => "resolve",
             Pass::Access => "access",
             Pass::Linear => "linear",
-            Pass::Conserve => "conserve",
         }
     }
 }
@@ -95,10 +89,10 @@ pub fn question(question: Question, image: &[u8], name: &[u8]) -> Result<bool, u
     Ok(question.ask(&Model::of(&tree), name))
 }
 
-/// An admitted image with the part of the full list that each pass has which was run.
+/// An admitted image with each pass's part of the full list.
 pub struct Judged<'a> {
     pub tree: Tree<'a>,
-    parts: Vec<Vec<Record>>,
+    parts: [Vec<Record>; 3],
 }
 
 /// Runs the three passes over an image, or refuses it.
@@ -106,26 +100,17 @@ pub fn judge(image: &[u8]) -> Result<Judged<'_>, u8> {
     let tree = admit(image)?;
     let model = Model::of(&tree);
     let found = [resolve::resolve(&tree, &model), access::access(&tree, &model), linear::linear(&tree)];
-    let parts = found.map(|part| Record::all(&tree, part)).to_vec();
+    let parts = found.map(|part| part.into_iter().map(|offence| Record::of(&tree, offence)).collect());
     Ok(Judged { tree, parts })
 }
 
-/// Request E6: "the caller lends one byte per entry, 1 for protected authority, 0 for none". Runs the four
-/// passes, or refuses the image, or the bytes: "15 after 1 to 8 and before 9".
-pub fn judge_with<'a>(image: &'a [u8], authority: &[u8]) -> Result<Judged<'a>, u8> {
-    let mut judged = judge(image)?;
-    let found = conserve::conserve(&judged.tree, authority)?;
-    judged.parts.push(Record::all(&judged.tree, found));
-    Ok(judged)
-}
-
 impl Judged<'_> {
-    /// A pass's own part of the list; the pass must be one of those that were run.
+    /// A pass's own part of the list.
     pub fn part(&self, pass: Pass) -> &[Record] {
         &self.parts[pass as usize]
     }
 
-    /// The full list: what the passes write, one after the other.
+    /// The full list: what resolve, access and linear write, one after the other.
     pub fn list(&self) -> Vec<Record> {
         self.parts.concat()
     }
@@ -169,10 +154,4 @@ pub fn verdict(pass: Pass, image: &[u8]) -> Result<Verdict, u8> {
 /// word.
 pub fn list(image: &[u8], words: &mut [u16]) -> Result<usize, u8> {
     judge(image)?.list_into(words)
-}
-
-/// The same for a caller who lends the bytes of request E6: "The full list has these after the linear
-/// ones".
-pub fn four_list(image: &[u8], authority: &[u8], words: &mut [u16]) -> Result<usize, u8> {
-    judge_with(image, authority)?.list_into(words)
 }

@@ -1,7 +1,7 @@
 //! The list's records: an offence in document 01's words, and by request E8 of document 02, "Which
 //! entry?", the entry that it stands in.
 
-use crate::offence::{Offence, Offences};
+use crate::offence::Offence;
 use crate::tree::Tree;
 
 /// How many words a record has: "code, place, related", and "Each list record gets a fourth word".
@@ -16,15 +16,10 @@ pub struct Record {
 }
 
 impl Record {
-    fn of(tree: &Tree, offence: Offence) -> Record {
+    pub fn of(tree: &Tree, offence: Offence) -> Record {
         let Offence { code, place, related } = offence;
         let entry = entry_of(tree, place);
         Record { code, place: place as u16, related: related as u16, entry: entry as u16 }
-    }
-
-    /// The records of what a pass found.
-    pub fn all(tree: &Tree, found: Offences) -> Vec<Record> {
-        found.into_iter().map(|offence| Record::of(tree, offence)).collect()
     }
 
     pub fn words(&self) -> [u16; RECORD_WORDS] {

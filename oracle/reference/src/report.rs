@@ -10,7 +10,7 @@ pub fn report(image: &[u8]) -> String {
         // It prints `image N` alone on refusal N.
         Err(refusal) => line(&mut out, &format!("image {refusal}")),
         Ok(judged) => {
-            for pass in Pass::THREE {
+            for pass in Pass::ALL {
                 pass_line(&mut out, pass, judged.verdict(pass));
             }
             list_lines(&mut out, &judged);

@@ -72,9 +72,14 @@ fn minting_with_several_assets(tree: &Tree, out: &mut Offences) {
 /// "Calls … are sought in statements only": those of an Entry or a Genesis, in preorder.
 fn calls(tree: &Tree, item: usize) -> Vec<usize> {
     match tree.kind(item) {
-        ENTRY | GENESIS => tree.in_statements(item, CALL),
+        ENTRY | GENESIS => in_statements(tree, item, CALL),
         _ => Vec::new(),
     }
+}
+
+fn in_statements(tree: &Tree, item: usize, kind: u8) -> Vec<usize> {
+    let statements = tree.statements(item);
+    statements.iter().flat_map(|s| tree.within(*s, kind)).collect()
 }
 
 /// 23: entry whose signature text equals an earlier one's (Name).
@@ -152,7 +157,7 @@ fn let_names(
 fn emits(tree: &Tree, out: &mut Offences) {
     let events = tree.items(EVENT);
     for item in tree.entries().into_iter().chain(tree.items(GENESIS)) {
-        for emit in tree.in_statements(item, EMIT) {
+        for emit in in_statements(tree, item, EMIT) {
             let declared = |e: &&usize| tree.name_text(**e) == tree.name_text(emit);
             match events.iter().rev().find(declared) {
                 None => out.push(at(30, emit)),
@@ -176,7 +181,7 @@ fn deployer(tree: &Tree, out: &mut Offences) {
         match tree.kind(item) {
             ENTRY => {
                 places.extend(signer_names(tree, item));
-                places.extend(tree.in_statements(item, IDENT));
+                places.extend(in_statements(tree, item, IDENT));
                 places.extend(clause_idents(tree, item));
             }
             INVARIANT => places.extend(tree.within(item, IDENT)),
@@ -199,7 +204,7 @@ fn clause_idents(tree: &Tree, entry: usize) -> Vec<usize> {
 
 /// "Each Genesis: 33 Assign that has a root, which is no state name (Assign)"
 fn genesis_assigns(tree: &Tree, model: &Model, genesis: usize, out: &mut Offences) {
-    for assign in tree.in_statements(genesis, ASSIGN) {
+    for assign in in_statements(tree, genesis, ASSIGN) {
         let root = tree.resolve_root(tree.assign_target(assign));
         if root.is_some_and(|r| !model.is_state(tree.text(r))) {
             out.push(at(33, assign));

@@ -75,11 +75,6 @@ impl<'a> Tree<'a> {
         self.children_of(item, is_statement)
     }
 
-    /// The nodes of one kind in those statements, in preorder.
-    pub fn in_statements(&self, item: usize, kind: u8) -> Vec<usize> {
-        self.statements(item).into_iter().flat_map(|s| self.within(s, kind)).collect()
-    }
-
     /// The Name that a declaration, a Type, a Let or an Emit begins with.
     pub fn name(&self, i: usize) -> usize {
         i + 1

@@ -1,7 +1,7 @@
 //! What the command line asks for.
 
+use crate::Trouble;
 use crate::help::{USAGE, help};
-use crate::{Trouble, authority};
 use std::ffi::{OsStr, OsString};
 use std::path::PathBuf;
 
@@ -34,8 +34,6 @@ pub struct Check {
     /// The folder that has a text for each image.
     pub sources: Option<PathBuf>,
     pub format: Format,
-    /// Which entries have signed authority, in their order; nothing where supply is not asked about.
-    pub authority: Option<Vec<bool>>,
     /// Whether the text has its faults by entry.
     pub by_entry: bool,
     pub output: Option<PathBuf>,
@@ -152,7 +150,6 @@ struct Asked {
     source: Option<PathBuf>,
     sources: Option<PathBuf>,
     format: Option<Format>,
-    authority: Option<Vec<bool>>,
     by_entry: bool,
     output: Option<PathBuf>,
     color: Option<Color>,
@@ -172,9 +169,6 @@ impl Asked {
             "--output" | "-o" => path(&mut self.output, value()),
             "--root" => path(&mut self.root, value()),
             "--format" => set(&mut self.format, name, value().map(|v| format(&v)).transpose()?),
-            "--authority" => {
-                set(&mut self.authority, name, value().map(|v| authority::read(&v)).transpose()?)
-            }
             _ => Err(format!("`{name}` is no option of `{}`", self.command)),
         }
     }
@@ -191,14 +185,12 @@ impl Asked {
 
     /// The options together, where they go together.
     fn check(self) -> Result<Check, String> {
-        let Asked { command: _, images, source, sources, format, authority, by_entry, output, color, root } =
-            self;
+        let Asked { command: _, images, source, sources, format, by_entry, output, color, root } = self;
         let format = format.unwrap_or_default();
         match images.len() {
             0 => return Err("`check` takes an image".to_string()),
             1 => {}
             _ if source.is_some() => return Err(ONE_SOURCE.to_string()),
-            _ if authority.is_some() => return Err(ONE_AUTHORITY.to_string()),
             _ if format == Format::Html => return Err(ONE_PAGE.to_string()),
             _ if format == Format::Numbers => return Err(ONE_REPORT.to_string()),
             _ => {}
@@ -213,7 +205,7 @@ impl Asked {
             return Err(IN_THE_LISTS_ORDER.to_string());
         }
         let color = color.unwrap_or_default();
-        Ok(Check { images, source, sources, format, authority, by_entry, output, color, root })
+        Ok(Check { images, source, sources, format, by_entry, output, color, root })
     }
 
     /// The lot that is asked about: an image and a place.
@@ -249,8 +241,6 @@ const IN_THE_LISTS_ORDER: &str = "`--by-entry` goes with text, html and json: nu
     of the list, and have the entry in each line or result";
 const ONE_SOURCE: &str = "`--source` is the text of one image: call `check` once for each image, or give the \
     folder of the texts with `--sources`";
-const ONE_AUTHORITY: &str =
-    "`--authority` is of the entries of one image: call `check` once for each image, with its own digits";
 const ONE_PAGE: &str = "a page is for one image: call `check` once for each";
 const ONE_REPORT: &str = "the numbers do not say which image they are of: call `check` once for each";
 

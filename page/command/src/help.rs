@@ -4,7 +4,7 @@ use words::statuses;
 
 pub const USAGE: &str = "\
 usage: isonkaypu check IMAGE... [--source FILE | --sources DIR] [--format text|numbers|json|sarif|html]
-                 [--authority DIGITS] [--by-entry] [--output FILE] [--color always|never|auto] [--root DIR]
+                 [--by-entry] [--output FILE] [--color always|never|auto] [--root DIR]
        isonkaypu why IMAGE PLACE [--source FILE] [--color always|never|auto]
        isonkaypu show IMAGE
        isonkaypu explain [NUMBER | image NUMBER | WORD]
@@ -29,11 +29,6 @@ check    checks images and writes the report; `-` is standard input
            --format FORM   text: for people (so it is without this option); numbers: the numbers alone;
                            json, sarif: for programs; html: a page. Of several images text has a summary at
                            its end, json is a list of reports, sarif one log; numbers and html take one image
-           --authority DIGITS
-                           checks supply too: where stock may be made. A digit for each entry of the one
-                           image, in their order: 1 where it has signed authority (`explain authority`), 0
-                           where it has none. That is your word, and is not checked. Where the digits are not
-                           one for each entry, you are told which entries there are
            --by-entry      text with the faults under a heading for each entry, with their number: first those
                            outside of the entries, then entry by entry as the contract has them. Without
                            this option they are in the order of the list. html is always by entry; json has

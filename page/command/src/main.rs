@@ -2,7 +2,6 @@
 //! tree, explains the numbers of a report.
 
 mod arguments;
-mod authority;
 mod files;
 mod help;
 mod run;
@@ -43,7 +42,7 @@ impl From<String> for Trouble {
 
 fn main() -> ExitCode {
     let given: Vec<_> = std::env::args_os().skip(1).collect();
-    let told = arguments::read(&given).and_then(run::run);
+    let told = arguments::read(&given).and_then(|command| Ok(run::run(command)?));
     match told.and_then(|answer| Ok(written(&answer)?)) {
         Ok(status) => ExitCode::from(status),
         Err(Trouble { what, below }) => {

@@ -2,20 +2,18 @@
 
 use crate::arguments::{Check, Color, Command, Format, Why};
 use crate::summary::summary;
-use crate::{ACCEPTED, Answer, NO_IMAGE, OFFENCES, TROUBLE, Trouble, authority, files, help};
-use isonkaypu::{
-    AuthorityError, Doubt, ImageRefusal, Lot, Report, WhyError, check_image, check_image_with_authority,
-};
+use crate::{ACCEPTED, Answer, NO_IMAGE, OFFENCES, TROUBLE, files, help};
+use isonkaypu::{Doubt, ImageRefusal, Lot, Report, WhyError, check_image};
 use show::Subject;
 use std::io::IsTerminal;
 use std::path::{Component, Path, PathBuf};
 
-pub fn run(command: Command) -> Result<Answer, Trouble> {
+pub fn run(command: Command) -> Result<Answer, String> {
     match command {
         Command::Check(check) => checked(&check),
         Command::Why(why) => asked_why(&why),
         Command::Show { image } => shown(image),
-        Command::Explain { what } => Ok(told(explain(&what)?)),
+        Command::Explain { what } => explain(&what).map(told),
         Command::HelpPage => Ok(told(words::help_page())),
         Command::Version => Ok(told(help::version())),
         Command::Help => Ok(told(help::help())),
@@ -36,11 +34,11 @@ struct Read {
 }
 
 impl Read {
-    fn of(image: &Path, source: Option<&Path>, check: &Check) -> Result<Read, Trouble> {
+    fn of(image: &Path, source: Option<&Path>, check: &Check) -> Result<Read, String> {
         let bytes = files::image(image)?;
         let label = label(image, check)?;
         let source = source.map(|path| Ok::<_, String>((self::label(path, check)?, files::source(path)?)));
-        let outcome = outcome(&bytes, check.authority.as_deref(), &label)?;
+        let outcome = check_image(&bytes);
         Ok(Read { label, bytes, outcome, source: source.transpose()? })
     }
 
@@ -56,33 +54,14 @@ impl Read {
     }
 }
 
-/// The report on an image, or why it is none. About supply the library is asked where there is authority; where that
-/// is not one for each entry, there is neither.
-fn outcome(
-    image: &[u8],
-    authority: Option<&[bool]>,
-    label: &str,
-) -> Result<Result<Report, ImageRefusal>, Trouble> {
-    let Some(authority) = authority else {
-        return Ok(check_image(image));
-    };
-    match check_image_with_authority(image, authority) {
-        Ok(report) => Ok(Ok(report)),
-        Err(AuthorityError::NoImage(refusal)) => Ok(Err(refusal)),
-        Err(AuthorityError::Count { entries, .. }) => {
-            Err(authority::not_one_each(authority, &entries, label))
-        }
-        Err(error) => Err(error.to_string().into()),
-    }
-}
-
 /// The images with their sources, and the files that were read. Nothing is shown where one cannot be.
-fn read(check: &Check) -> Result<(Vec<Read>, Vec<PathBuf>), Trouble> {
+fn read(check: &Check) -> Result<(Vec<Read>, Vec<PathBuf>), String> {
     let sources: Vec<Option<PathBuf>> = check.images.iter().map(|image| source_of(image, check)).collect();
     let inputs: Vec<PathBuf> = check.images.iter().chain(sources.iter().flatten()).cloned().collect();
     if inputs.iter().filter(|path| files::is_standard(path)).count() > 1 {
-        let what = "the images and the source cannot both be standard input, nor can two of them";
-        return Err(what.to_string().into());
+        return Err(
+            "the images and the source cannot both be standard input, nor can two of them".to_string()
+        );
     }
     let pairs = check.images.iter().zip(&sources);
     let read = pairs.map(|(image, source)| Read::of(image, source.as_deref(), check));
@@ -90,7 +69,7 @@ fn read(check: &Check) -> Result<(Vec<Read>, Vec<PathBuf>), Trouble> {
 }
 
 /// Checks every image.
-fn checked(check: &Check) -> Result<Answer, Trouble> {
+fn checked(check: &Check) -> Result<Answer, String> {
     let (read, inputs) = read(check)?;
     let subject = |read| if check.by_entry { Read::subject(read).by_entry() } else { Read::subject(read) };
     let subjects: Vec<Subject> = read.iter().map(subject).collect();
@@ -103,11 +82,11 @@ fn checked(check: &Check) -> Result<Answer, Trouble> {
 }
 
 /// Why a lot is refused, or is not.
-fn asked_why(why: &Why) -> Result<Answer, Trouble> {
+fn asked_why(why: &Why) -> Result<Answer, String> {
     let Why { check, place } = why;
     let (read, inputs) = read(check)?;
     let [read] = &read[..] else {
-        return Err("`why` is asked of one image".to_string().into());
+        return Err("`why` is asked of one image".to_string());
     };
     let subject = read.subject();
     let status = status(&subject)?;
@@ -191,7 +170,7 @@ fn remarks(subjects: &[Subject]) -> Vec<String> {
 }
 
 /// The tree of an image.
-fn shown(image: PathBuf) -> Result<Answer, Trouble> {
+fn shown(image: PathBuf) -> Result<Answer, String> {
     let read = Read::of(&image, None, &Check::default())?;
     let subject = read.subject();
     let status = status(&subject)?;

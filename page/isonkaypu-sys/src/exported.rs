@@ -3,8 +3,6 @@
 pub type Pass = unsafe extern "C" fn(*const u8, usize, *mut u16, *mut u32, *mut u32) -> usize;
 pub type Question = unsafe extern "C" fn(*const u8, usize, *const u8, usize, *mut u8) -> usize;
 pub type List = unsafe extern "C" fn(*const u8, usize, *mut u16, usize, *mut usize) -> usize;
-pub type AuthorityList =
-    unsafe extern "C" fn(*const u8, usize, *const u8, usize, *mut u16, usize, *mut usize) -> usize;
 
 /// Declares functions of one shape.
 macro_rules! export {
@@ -21,7 +19,7 @@ export!(
     (image: *const u8, image_len: usize, place: *mut u16, from: *mut u32, to: *mut u32)
 );
 unsafe extern "C" {
-    pub fn isonkaypu_verdicts(image: *const u8, image_len: usize, numbers: *mut [[usize; 4]; 3]);
+    pub fn isonkaypu_verdicts(image: *const u8, image_len: usize, numbers: *mut [usize; 12]);
 }
 export!(
     [isonkaypu_is_state, isonkaypu_is_declared_asset, isonkaypu_is_known_asset],
@@ -40,32 +38,4 @@ unsafe extern "C" {
         words_len: usize,
         count: *mut usize,
     ) -> usize;
-    pub fn isonkaypu_conserve(
-        image: *const u8,
-        image_len: usize,
-        authority: *const u8,
-        authority_len: usize,
-        place: *mut u16,
-        from: *mut u32,
-        to: *mut u32,
-    ) -> usize;
-    pub fn isonkaypu_four_verdicts(
-        image: *const u8,
-        image_len: usize,
-        authority: *const u8,
-        authority_len: usize,
-        numbers: *mut [[usize; 4]; 4],
-    );
 }
-export!(
-    [isonkaypu_four_list, isonkaypu_conserve_list],
-    (
-        image: *const u8,
-        image_len: usize,
-        authority: *const u8,
-        authority_len: usize,
-        words: *mut u16,
-        words_len: usize,
-        count: *mut usize
-    )
-);

@@ -7,17 +7,17 @@
 
 mod exported;
 
-use exported::{AuthorityList, List, Pass, Question};
+use exported::{List, Pass, Question};
 
-/// The words of a record of a list: code, place, related, entry. `list` and `four_list` are refused with 9 where they
-/// are lent fewer for each offence.
+/// The words of a record of a list: code, place, related, entry. `list` is refused with 9 where it is lent fewer
+/// for each offence.
 pub const RECORD: usize = 4;
 
 /// What lent places hold before a call, so that an answer that is not written shows.
 const UNSET: u8 = 0xa5;
 
 /// The numbers of a verdict. The first is 0 where the pass accepts, 1 to 8 where the image is
-/// refused, 15 where the authority is, else the offence's code.
+/// refused, else the offence's code.
 #[derive(Clone, Copy, Debug, PartialEq, Eq)]
 pub struct Answer {
     /// 0, a refusal, or a code.
@@ -28,12 +28,6 @@ pub struct Answer {
     pub from: usize,
     /// That node's second span word.
     pub to: usize,
-}
-
-impl Answer {
-    fn of([number, place, from, to]: [usize; 4]) -> Answer {
-        Answer { number, place, from, to }
-    }
 }
 
 /// The kit that the library was made with, in the one line by which `rt version` names it.
@@ -71,61 +65,28 @@ pub fn linear(image: &[u8]) -> Answer {
     pass(exported::isonkaypu_linear, image)
 }
 
-/// The verdict of the conserve pass. `authority` has a byte for each entry, in their order: 1 where it has
-/// protected authority, 0 where it has none. The number is 15 where they are not one for each entry or one is over 1.
-pub fn conserve(image: &[u8], authority: &[u8]) -> Answer {
-    // SAFETY: pointers and lengths are those of live slices; the rest are live and exclusive.
-    answer(|place, from, to| unsafe {
-        exported::isonkaypu_conserve(
-            image.as_ptr(),
-            image.len(),
-            authority.as_ptr(),
-            authority.len(),
-            place,
-            from,
-            to,
-        )
-    })
-}
-
 fn pass(function: Pass, image: &[u8]) -> Answer {
-    // SAFETY: pointer and length are those of a live slice; the rest are live and exclusive.
-    answer(|place, from, to| unsafe { function(image.as_ptr(), image.len(), place, from, to) })
-}
-
-/// The answer of a call that writes a place and its span words.
-fn answer(call: impl FnOnce(&mut u16, &mut u32, &mut u32) -> usize) -> Answer {
     let mut place = u16::from_ne_bytes([UNSET; 2]);
     let mut from = u32::from_ne_bytes([UNSET; 4]);
     let mut to = from;
-    let number = call(&mut place, &mut from, &mut to);
+    // SAFETY: pointer and length are those of a live slice; the rest are live and exclusive.
+    let number = unsafe { function(image.as_ptr(), image.len(), &mut place, &mut from, &mut to) };
     Answer { number, place: usize::from(place), from: from as usize, to: to as usize }
 }
 
 /// The verdicts of resolve, access and linear, with one admission.
 pub fn verdicts(image: &[u8]) -> [Answer; 3] {
-    let mut numbers = [[unset(); 4]; 3];
+    let mut numbers = [unset(); 12];
     // SAFETY: pointer and length are those of a live slice; the twelve numbers are live and
     // exclusive.
     unsafe { exported::isonkaypu_verdicts(image.as_ptr(), image.len(), &mut numbers) };
-    numbers.map(Answer::of)
-}
-
-/// The same with conserve, which is last; `authority` as in `conserve`. On 15 that is the number of all four.
-pub fn four_verdicts(image: &[u8], authority: &[u8]) -> [Answer; 4] {
-    let mut numbers = [[unset(); 4]; 4];
-    // SAFETY: pointers and lengths are those of live slices; the sixteen numbers are live and
-    // exclusive.
-    unsafe {
-        exported::isonkaypu_four_verdicts(
-            image.as_ptr(),
-            image.len(),
-            authority.as_ptr(),
-            authority.len(),
-            &mut numbers,
-        );
-    }
-    numbers.map(Answer::of)
+    let answer = |at: usize| Answer {
+        number: numbers[at],
+        place: numbers[at + 1],
+        from: numbers[at + 2],
+        to: numbers[at + 3],
+    };
+    [answer(0), answer(4), answer(8)]
 }
 
 /// The result, 0 to 8, and the byte that says yes (1) or no (0).
@@ -172,51 +133,30 @@ pub fn linear_list(image: &[u8], words: &mut [u16]) -> (usize, usize) {
 }
 
 fn listed(function: List, image: &[u8], words: &mut [u16]) -> (usize, usize) {
+    let mut count = unset();
     // SAFETY: pointers and lengths are those of live slices, the words' one exclusive; `count` is
     // live and exclusive.
-    counted(|count| unsafe { function(image.as_ptr(), image.len(), words.as_mut_ptr(), words.len(), count) })
-}
-
-/// The full list of the four passes: the result, 0 to 9 or 15, and the number of records. It is `list` with the
-/// records of conserve behind them; `authority` as in `conserve`.
-pub fn four_list(image: &[u8], authority: &[u8], words: &mut [u16]) -> (usize, usize) {
-    listed_with(exported::isonkaypu_four_list, image, authority, words)
-}
-
-/// Conserve's part of it: the result, 0 to 8 or 15, and the number of records; else as `resolve_list`.
-pub fn conserve_list(image: &[u8], authority: &[u8], words: &mut [u16]) -> (usize, usize) {
-    listed_with(exported::isonkaypu_conserve_list, image, authority, words)
-}
-
-fn listed_with(function: AuthorityList, image: &[u8], authority: &[u8], words: &mut [u16]) -> (usize, usize) {
-    // SAFETY: as in `listed`.
-    counted(|count| unsafe {
-        function(
-            image.as_ptr(),
-            image.len(),
-            authority.as_ptr(),
-            authority.len(),
-            words.as_mut_ptr(),
-            words.len(),
-            count,
-        )
-    })
+    let result =
+        unsafe { function(image.as_ptr(), image.len(), words.as_mut_ptr(), words.len(), &mut count) };
+    (result, count)
 }
 
 /// Why the lot at a place is refused, or is not: the result, 0, 1 to 8, 13 where no lot stands at that
 /// place, or 10 where the words are too few; and how many words were written, two for each clause that
 /// burns the lot and each use of it.
 pub fn why(image: &[u8], place: usize, words: &mut [u16]) -> (usize, usize) {
-    // SAFETY: as in `listed`.
-    counted(|count| unsafe {
-        exported::isonkaypu_why(image.as_ptr(), image.len(), place, words.as_mut_ptr(), words.len(), count)
-    })
-}
-
-/// The result of a call, and the count that it writes.
-fn counted(call: impl FnOnce(&mut usize) -> usize) -> (usize, usize) {
     let mut count = unset();
-    let result = call(&mut count);
+    // SAFETY: as in `listed`.
+    let result = unsafe {
+        exported::isonkaypu_why(
+            image.as_ptr(),
+            image.len(),
+            place,
+            words.as_mut_ptr(),
+            words.len(),
+            &mut count,
+        )
+    };
     (result, count)
 }
 
@@ -233,10 +173,6 @@ mod tests {
         assert_eq!(is_known_asset(&[], b"QTOV"), (1, 0));
         assert_eq!((list(&[], &mut words), words), ((1, 0), [7; RECORD]));
         assert_eq!((why(&[], 5, &mut words), words), ((1, 0), [7; RECORD]));
-        assert_eq!(conserve(&[0; 24], &[1]), Answer { number: 2, place: 0, from: 0, to: 0 });
-        assert_eq!(four_verdicts(&[], &[2]).map(|answer| answer.number), [1; 4]);
-        assert_eq!((four_list(&[], &[], &mut words), words), ((1, 0), [7; RECORD]));
-        assert_eq!((conserve_list(&[], &[], &mut words), words), ((1, 0), [7; RECORD]));
     }
 
     #[test]

@@ -1,5 +1,5 @@
 //! The C header says what the crates say: the functions that are declared here are its functions, all of them;
-//! its version is theirs; and it has a name for every number of documents 01 and 02, once.
+//! its version is theirs; and it has a name for every number of document 01, once.
 
 use std::collections::BTreeSet;
 use std::fs;

@@ -9,14 +9,12 @@ use std::fmt;
 #[derive(Clone, Copy, Debug, PartialEq, Eq, Hash)]
 #[non_exhaustive]
 pub enum Doubt {
-    /// The list was refused, with this number: 9 where its buffer was too short, 15 where the library does not see
-    /// one byte of authority for each entry.
+    /// The list was refused, with this number: 9 where its buffer was too short.
     List(usize),
     /// The list is said to have this many records, more than its buffer holds.
     Count(usize),
-    /// A record of the list (code, place, related, entry) whose code is none or that of a pass which did not run, one
-    /// of whose places is no node, or whose entry is not the one that its place stands in. It is not among the
-    /// offences.
+    /// A record of the list (code, place, related, entry) whose code is none, one of whose places is no node, or
+    /// whose entry is not the one that its place stands in. It is not among the offences.
     Record([u16; RECORD]),
     /// The verdict of the pass is not the first of its offences in the list.
     Verdict(Pass),

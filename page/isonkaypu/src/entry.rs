@@ -1,7 +1,7 @@
-//! The entries of a contract: reviewers are assigned by entry, and each has protected authority or none.
+//! The entry that an offence stands in: reviewers are assigned by entry.
 
 use crate::Place;
-use form::{Tree, kind};
+use form::Tree;
 
 /// An entry of the contract. Its node says which one it is: several can have one name.
 #[derive(Clone, Debug, PartialEq)]
@@ -21,13 +21,6 @@ impl Entry {
         // the first child of an Entry is its Name
         let name = String::from_utf8(tree.text(place.node + 1).to_vec()).ok()?;
         Some(Entry { place, name })
-    }
-
-    /// Every entry of the contract, in order.
-    #[must_use]
-    pub fn all(tree: &Tree) -> Vec<Entry> {
-        let is_entry = |item: &usize| tree.kind(*item) == kind::ENTRY;
-        tree.children(0).filter(is_entry).filter_map(|entry| Entry::around(tree, entry)).collect()
     }
 
     /// The entry that a record says for its place, 0 for none; nothing where the place does not stand there.
@@ -60,16 +53,6 @@ mod tests {
         let span = Entry::around(&tree, 13).unwrap().place.span;
         assert_eq!(&NAMESAKES[span.start as usize..span.end as usize], "entry e(x: Q_Asset) { }");
         assert!(span.start > 40);
-    }
-
-    #[test]
-    fn all_entries_in_order() {
-        let nodes = |text: &str| {
-            let image = example::image(text);
-            Entry::all(&Tree::of(&image).unwrap()).iter().map(|entry| entry.place.node).collect::<Vec<_>>()
-        };
-        assert_eq!(nodes(NAMESAKES), [4, 10]);
-        assert_eq!(nodes("contract c { genesis { mint(1); } invariant y; }"), []);
     }
 
     /// The other entry of the name, no entry, an entry for what stands in none, its Name, and no node at all.

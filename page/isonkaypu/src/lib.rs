@@ -17,9 +17,6 @@
 //!
 //! - `check` takes a contract as the parser gives it, `check_image` the bytes of an image. Let
 //!   something through only where `Report::accepted` says so.
-//! - `check_with_authority` and `check_image_with_authority` also check supply (`conserve`): where stock may be made.
-//!   They take the caller's word on which entries have protected (signed) authority. `Report::passes` says which
-//!   passes ran.
 //! - A place in a report is a node of the image and a span: the parser's own `Span`, wherever one stands
 //!   here. **It is two byte offsets into the source that was parsed**, of the first byte and of the one
 //!   past the last; the image carries them as the contract has them and nobody judges them, so they may
@@ -28,9 +25,9 @@
 //! - `why` says which clauses and which statements use a lot, `lots` which lots there are. Every 61 and 62 of a
 //!   report has the same with it: `Offence::reasons`.
 //! - `show` makes reports for people and for programs of it, with the lines of the source.
-//! - An accepted contract can still be wrong in what no rule looks at: signed authority, undeclared names in
-//!   statements, stock that never gets a name, and more; and supply, where it was not asked about. Every report
-//!   of `show` names all of it.
+//! - An accepted contract can still be wrong in what no rule looks at: supply (`conserve`), signed
+//!   authority, undeclared names in statements, stock that never gets a name, and more. Every report of
+//!   `show` names all of it.
 //! - Any contract and any bytes may be given, from any number of threads at once. Nothing here panics,
 //!   and 256 KiB of stack are enough for every call. A contract that is too deep is refused; only how it
 //!   is dropped is its own matter.
@@ -42,7 +39,6 @@
 )]
 
 mod answers;
-mod authority;
 mod doubt;
 mod entry;
 mod name;
@@ -53,7 +49,6 @@ mod refusal;
 mod report;
 mod why;
 
-pub use authority::AuthorityError;
 pub use doubt::Doubt;
 pub use entry::Entry;
 pub use offence::{Offence, Place};
@@ -65,7 +60,6 @@ pub use refusal::ImageRefusal;
 pub use report::{Report, Verdict};
 pub use why::{Lot, Reason, WhyError, lots, why};
 
-use answers::Answers;
 use quanta_ast::Contract;
 
 /// Checks a contract.
@@ -81,81 +75,22 @@ pub fn check(contract: &Contract) -> Result<Report, PackError> {
     check_packed(contract, &pack::pack(contract)?)
 }
 
-/// Checks a contract as `check` does, and supply (`conserve`) with it: where stock may be made. `authority` has one for
-/// each entry, in the contract's order: true where the entry has protected authority, which is the caller's word and
-/// is not checked here.
-///
-/// An error is that of `check`, or says which entries there are where `authority` is not one for each.
-///
-/// ```
-/// # let image = example::image(
-/// #     "contract Ward { asset M; entry make(to: Q_Address) mints M { let box = mint(5); send(to, box); } }",
-/// # );
-/// # let contract = pack::unpack(&image).expect("a contract");
-/// // as the page's parser reads it from `contract Ward { asset M; entry make(to: Q_Address) mints M { .. } }`
-/// let signed = isonkaypu::check_with_authority(&contract, &[true])?;
-/// assert!(signed.accepted(), "{signed}");
-///
-/// // nobody signs for what `make` mints
-/// let unsigned = isonkaypu::check_with_authority(&contract, &[false])?;
-/// assert_eq!(unsigned.offences().iter().map(|offence| offence.code).collect::<Vec<_>>(), [72]);
-/// # Ok::<(), isonkaypu::AuthorityError<isonkaypu::PackError>>(())
-/// ```
-pub fn check_with_authority(
-    contract: &Contract,
-    authority: &[bool],
-) -> Result<Report, AuthorityError<PackError>> {
-    check_packed_with_authority(contract, &pack::pack(contract)?, authority)
-}
-
 /// Checks the image of a contract, once it is seen that it is the contract's.
 fn check_packed(contract: &Contract, image: &[u8]) -> Result<Report, PackError> {
-    see_that_it_is_of(contract, image)?;
-    check_image(image).map_err(|refusal| refused(contract, refusal))
-}
-
-/// The same with authority.
-fn check_packed_with_authority(
-    contract: &Contract,
-    image: &[u8],
-    authority: &[bool],
-) -> Result<Report, AuthorityError<PackError>> {
-    see_that_it_is_of(contract, image)?;
-    let checked = check_image_with_authority(image, authority);
-    checked.map_err(|error| error.map(|refusal| refused(contract, refusal)))
-}
-
-/// Unpacks an image and compares: what comes of it must be the contract.
-fn see_that_it_is_of(contract: &Contract, image: &[u8]) -> Result<(), PackError> {
     let unlike = match pack::unpack(image) {
         Some(unpacked) => pack::unlike(contract, &unpacked),
         None => Some(contract.span),
     };
-    unlike.map_or(Ok(()), |span| Err(PackError::new(Limit::Unlike, span)))
-}
-
-/// The image that was made of the contract is refused.
-fn refused(contract: &Contract, refusal: ImageRefusal) -> PackError {
-    PackError::new(Limit::Refused(refusal.number()), contract.span)
+    match unlike {
+        Some(span) => Err(PackError::new(Limit::Unlike, span)),
+        None => check_image(image)
+            .map_err(|refusal| PackError::new(Limit::Refused(refusal.number()), contract.span)),
+    }
 }
 
 /// Checks an image. Any bytes may be given: what is no image is refused.
 pub fn check_image(image: &[u8]) -> Result<Report, ImageRefusal> {
-    Ok(Report::of(image, &Answers::of(image, None)?))
-}
-
-/// Checks an image as `check_image` does, and supply with it: see `check_with_authority`.
-pub fn check_image_with_authority(
-    image: &[u8],
-    authority: &[bool],
-) -> Result<Report, AuthorityError<ImageRefusal>> {
-    let report = Report::of(image, &Answers::of(image, Some(authority))?);
-    let entries = report.tree().map_or_else(Vec::new, |tree| Entry::all(&tree));
-    // the library counts too: should it see another number of entries than there are here, that is a doubt
-    match entries.len() == authority.len() {
-        true => Ok(report),
-        false => Err(AuthorityError::Count { given: authority.len(), entries }),
-    }
+    Ok(Report::of(image, &answers::Answers::of(image)?))
 }
 
 /// The kit that the proved library was made with, in one line.
@@ -174,9 +109,8 @@ pub fn library() -> &'static str {
 ///
 /// ```compile_fail,E0004
 /// fn all(pass: isonkaypu::Pass) -> bool {
-///     use isonkaypu::Pass;
 ///     match pass {
-///         Pass::Resolve | Pass::Access | Pass::Linear | Pass::Conserve => true,
+///         isonkaypu::Pass::Resolve | isonkaypu::Pass::Access | isonkaypu::Pass::Linear => true,
 ///     }
 /// }
 /// ```
@@ -237,9 +171,6 @@ mod tests {
         }
         let error = check_packed(&contract, b"no image").unwrap_err();
         assert_eq!((error.limit(), error.span()), (Limit::Unlike, contract.span));
-        // nor with authority
-        let unlike = AuthorityError::NoImage(PackError::new(Limit::Unlike, contract.span));
-        assert_eq!(check_packed_with_authority(&contract, b"no image", &[]), Err(unlike));
     }
 
     /// Were it to make one that is refused: a name that nobody uses stands in the table.
@@ -249,23 +180,5 @@ mod tests {
         let contract = pack::unpack(image).unwrap();
         let error = check_packed(&contract, &with_a_name_more(image)).unwrap_err();
         assert_eq!((error.limit(), error.number()), (Limit::Refused(8), 8));
-        let with_authority = check_packed_with_authority(&contract, &with_a_name_more(image), &[]);
-        assert_eq!(with_authority, Err(AuthorityError::NoImage(error)));
-    }
-
-    /// Of a contract the same is said as of its image.
-    #[test]
-    fn authority_of_a_contract() {
-        let image = example::image("contract c { entry a() mints M { } entry b() { mint(1); } }");
-        let contract = pack::unpack(&image).unwrap();
-        for authority in [[false, false], [false, true], [true, false], [true, true]] {
-            let report = check_image_with_authority(&image, &authority).unwrap();
-            assert_eq!(check_with_authority(&contract, &authority), Ok(report));
-        }
-        let counted = |error: AuthorityError<PackError>| match error {
-            AuthorityError::Count { given, entries } => (given, entries.len()),
-            AuthorityError::NoImage(error) => panic!("{error}"),
-        };
-        assert_eq!(check_with_authority(&contract, &[true]).map_err(counted), Err((1, 2)));
     }
 }

@@ -6,7 +6,7 @@ use form::{Tree, kind};
 pub fn name_of(tree: &Tree, code: u16, place: usize) -> Option<String> {
     let named = match tree.kind(place) {
         kind::NAME | kind::IDENT => place,
-        kind::LET | kind::EMIT | kind::MINTS => first(tree, place)?,
+        kind::LET | kind::EMIT => first(tree, place)?,
         kind::ASSIGN => root(tree, first(tree, place)?)?,
         kind::CALL => of_call(tree, code, first(tree, place)?)?,
         _ => return None,

@@ -1,7 +1,7 @@
 //! One offence, as the list has it, with the name of the contract that it is about.
 
 use crate::name::name_of;
-use crate::{Entry, Pass, Reason};
+use crate::{Entry, Reason};
 use form::Tree;
 use isonkaypu_sys::RECORD;
 use quanta_lexer::Span;
@@ -26,17 +26,17 @@ impl Place {
     }
 }
 
-/// An offence against one of the rules of documents 01 and 02.
+/// An offence against one of document 01's rules.
 #[derive(Clone, Debug, PartialEq)]
 #[non_exhaustive]
 pub struct Offence {
-    /// The code: document 01's, 20 to 62, or for supply document 02's, 70 to 72.
+    /// Document 01's code, 20 to 62.
     pub code: u16,
     /// Where it stands.
     pub place: Place,
     /// The name in the contract that it is about, where there is one: of a Name or an Ident its own
-    /// text, of a Let or an Emit its name, of a Mints clause the asset's, of an Assign the name that is
-    /// assigned to, of a Call the function or method, and for 51 the name whose method it is.
+    /// text, of a Let or an Emit its name, of an Assign the name that is assigned to, of a Call the
+    /// function or method, and for 51 the name whose method it is.
     pub name: Option<String>,
     /// The other place that the rule speaks of: the first declaration of a name that is declared
     /// again, the second use of a lot. With a `burns` clause, which is the earlier use, that is the first
@@ -51,11 +51,10 @@ pub struct Offence {
 }
 
 impl Offence {
-    /// The offence of a record (code, place, related, entry), where its code is one of the passes that ran, its
-    /// places are nodes, and its entry is that of its place. Its reasons are another answer of the library's.
-    pub(crate) fn of(tree: &Tree, ran: &[Pass], record: [u16; RECORD]) -> Option<Offence> {
-        let [code, place, related, entry] = record;
-        Pass::of_code(code).filter(|pass| ran.contains(pass))?;
+    /// The offence of a record (code, place, related, entry), where its code is one, its places are nodes, and its
+    /// entry is that of its place. Its reasons are another answer of the library's.
+    pub(crate) fn of(tree: &Tree, [code, place, related, entry]: [u16; RECORD]) -> Option<Offence> {
+        crate::Pass::of_code(code)?;
         let place = Place::of(tree, usize::from(place))?;
         let related = match related {
             0 => None,

@@ -48,85 +48,46 @@ impl Verdict {
 #[derive(Clone, Debug, PartialEq)]
 pub struct Report {
     image: Vec<u8>,
-    /// Of resolve, access and linear.
     verdicts: [Verdict; 3],
-    /// Which entries have protected authority, and conserve's verdict; nothing where it was not asked.
-    supply: Option<(Vec<bool>, Verdict)>,
     offences: Vec<Offence>,
     doubts: Vec<Doubt>,
 }
 
 impl Report {
     pub(crate) fn of(image: &[u8], answers: &Answers) -> Report {
+        let mut doubts = Vec::new();
         let tree = Tree::of(image);
-        let of_supply = |(authority, answer): &(Vec<bool>, Answer)| (authority.clone(), Verdict::of(answer));
-        let mut report = Report {
-            image: image.to_vec(),
-            verdicts: answers.verdicts.each_ref().map(Verdict::of),
-            supply: answers.supply.as_ref().map(of_supply),
-            offences: Vec::new(),
-            doubts: Vec::new(),
-        };
-        report.offences = offences(tree.as_ref(), report.passes(), answers, &mut report.doubts);
+        let mut offences = offences(tree.as_ref(), answers, &mut doubts);
+        let verdicts = answers.verdicts.each_ref().map(Verdict::of);
         // a list that could not be read says nothing of the verdicts
-        if report.doubts.is_empty() {
-            report.doubts = report.unlike_the_list();
+        if doubts.is_empty() {
+            let unlike = |(pass, verdict): &(Pass, Verdict)| *verdict != first_of(*pass, &offences);
+            let doubted = Pass::ALL.iter().copied().zip(verdicts).filter(unlike);
+            doubts.extend(doubted.map(|(pass, _)| Doubt::Verdict(pass)));
         }
         let ask = |place: usize| (answers.why)(image, place);
-        let doubted = tree.iter().flat_map(|tree| give_reasons(tree, ask, &mut report.offences));
-        report.doubts.extend(doubted);
-        report
+        doubts.extend(tree.iter().flat_map(|tree| give_reasons(tree, ask, &mut offences)));
+        Report { image: image.to_vec(), verdicts, offences, doubts }
     }
 
-    /// The passes whose verdict is not the first of their offences in the list.
-    fn unlike_the_list(&self) -> Vec<Doubt> {
-        let unlike = |(pass, verdict): &(Pass, Verdict)| *verdict != first_of(*pass, &self.offences);
-        self.verdicts().filter(unlike).map(|(pass, _)| Doubt::Verdict(pass)).collect()
-    }
-
-    /// True only where every pass that was asked ran and accepted, and the list of offences is whole and empty.
-    /// Where supply was not asked about, nothing is said of it: `passes` says what ran.
+    /// True only where every pass ran and accepted, and the list of offences is whole and empty.
     #[must_use]
     pub fn accepted(&self) -> bool {
-        let all_accept = self.verdicts().all(|(_, verdict)| verdict == Verdict::ACCEPTED);
+        let all_accept = self.verdicts.iter().all(|verdict| *verdict == Verdict::ACCEPTED);
         all_accept && self.offences.is_empty() && self.doubts.is_empty()
     }
 
-    /// The passes that ran, in their order: all four where the caller said which entries have protected authority,
-    /// else all but conserve.
-    #[must_use]
-    pub fn passes(&self) -> &'static [Pass] {
-        match self.supply {
-            Some(_) => Pass::ALL,
-            None => Pass::WITHOUT_AUTHORITY,
-        }
-    }
-
-    /// What the caller said of each entry, in order: true where it has protected authority. `None` where supply was
-    /// not asked about. It is the caller's word: nothing here looks at signatures.
-    #[must_use]
-    pub fn authority(&self) -> Option<&[bool]> {
-        self.supply.as_ref().map(|(authority, _)| &authority[..])
-    }
-
-    /// The verdict of a pass; `None` where it did not run.
-    #[must_use]
-    pub fn verdict(&self, pass: Pass) -> Option<Verdict> {
+    /// The verdict of a pass.
+    pub fn verdict(&self, pass: Pass) -> Verdict {
         let [resolve, access, linear] = self.verdicts;
         match pass {
-            Pass::Resolve => Some(resolve),
-            Pass::Access => Some(access),
-            Pass::Linear => Some(linear),
-            Pass::Conserve => self.supply.as_ref().map(|(_, conserve)| *conserve),
+            Pass::Resolve => resolve,
+            Pass::Access => access,
+            Pass::Linear => linear,
         }
     }
 
-    /// The verdict of each pass that ran, in their order.
-    pub fn verdicts(&self) -> impl Iterator<Item = (Pass, Verdict)> {
-        self.passes().iter().filter_map(|pass| Some((*pass, self.verdict(*pass)?)))
-    }
-
-    /// Every offence of the passes that ran, in document 01's order, those of conserve last.
+    /// Every offence, in document 01's order.
     pub fn offences(&self) -> &[Offence] {
         &self.offences
     }
@@ -179,7 +140,7 @@ fn first_of(pass: Pass, offences: &[Offence]) -> Verdict {
 }
 
 /// The offences of the list as far as it can be read; what cannot is doubted.
-fn offences(tree: Option<&Tree>, ran: &[Pass], answers: &Answers, doubts: &mut Vec<Doubt>) -> Vec<Offence> {
+fn offences(tree: Option<&Tree>, answers: &Answers, doubts: &mut Vec<Doubt>) -> Vec<Offence> {
     if answers.list != 0 {
         doubts.push(Doubt::List(answers.list));
         return Vec::new();
@@ -191,7 +152,7 @@ fn offences(tree: Option<&Tree>, ran: &[Pass], answers: &Answers, doubts: &mut V
     };
     let mut offences = Vec::with_capacity(records.len());
     for record in records {
-        match tree.and_then(|tree| Offence::of(tree, ran, *record)) {
+        match tree.and_then(|tree| Offence::of(tree, *record)) {
             Some(offence) => offences.push(offence),
             None => doubts.push(Doubt::Record(*record)),
         }
@@ -223,13 +184,7 @@ mod tests {
     }
 
     fn accepting() -> Answers {
-        let words = vec![0; 3 * RECORD];
-        Answers { verdicts: [ACCEPTS; 3], supply: None, list: 0, count: 0, words, why: Said::of }
-    }
-
-    /// What the library says where supply is not asked about.
-    fn asked(image: &[u8]) -> Answers {
-        Answers::of(image, None).unwrap()
+        Answers { verdicts: [ACCEPTS; 3], list: 0, count: 0, words: vec![0; 3 * RECORD], why: Said::of }
     }
 
     fn doubts(image: &[u8], answers: &Answers) -> Vec<Doubt> {
@@ -244,103 +199,15 @@ mod tests {
         let [accepted, offending] = images();
         assert!(Report::of(&accepted, &accepting()).accepted());
         for image in [&accepted, &offending] {
-            let report = Report::of(image, &asked(image));
+            let report = Report::of(image, &Answers::of(image).unwrap());
             assert_eq!((report.accepted(), report.doubts()), (image == &accepted, &[][..]));
-        }
-    }
-
-    /// Genesis mints; then an entry that may, one that may not, and one that does not.
-    const MINTING: &str = "contract c { asset M; genesis { mint(1); } entry a() mints M { } \
-        entry b() { mint_asset(1); } entry d() { } }";
-
-    /// The records that document 02 asks for, the entries' before genesis's, where `a` has no authority.
-    const OF_MINTING: [[u16; RECORD]; 3] = [[72, 11, 0, 9], [71, 16, 0, 13], [70, 6, 0, 0]];
-
-    /// What the library says of an image whose entries have this authority.
-    fn asked_with(image: &[u8], authority: &[bool]) -> Answers {
-        Answers::of(image, Some(authority)).unwrap()
-    }
-
-    #[test]
-    fn supply_is_asked_about_where_authority_is_given() {
-        let image = example::image(MINTING);
-        for (a, b) in [(false, false), (false, true), (true, false), (true, true)] {
-            let authority = [a, b, false];
-            let report = Report::of(&image, &asked_with(&image, &authority));
-            assert_eq!((report.passes(), report.authority()), (Pass::ALL, Some(&authority[..])));
-            assert_eq!((report.accepted(), report.doubts()), (false, &[][..]));
-            let records = &OF_MINTING[usize::from(a)..];
-            let record = |offence: &Offence| {
-                let related = offence.related.map_or(0, |place| place.node);
-                let entry = offence.entry.as_ref().map_or(0, |entry| entry.place.node);
-                [usize::from(offence.code), offence.place.node, related, entry].map(|word| word as u16)
-            };
-            assert_eq!(report.offences().iter().map(record).collect::<Vec<_>>(), records);
-            let first =
-                report.verdict(Pass::Conserve).map(|verdict| [verdict.code, verdict.place.node as u16]);
-            assert_eq!(first, Some([records[0][0], records[0][1]]));
-            let names = report.offences().iter().filter_map(|offence| offence.name.as_deref());
-            assert!(names.eq(["M", "mint_asset", "mint"].into_iter().skip(usize::from(a))));
-        }
-        let report = Report::of(&image, &asked(&image));
-        assert!(report.accepted(), "{report}");
-        assert_eq!((report.passes(), report.authority()), (Pass::WITHOUT_AUTHORITY, None));
-        assert_eq!(report.verdict(Pass::Conserve), None);
-    }
-
-    /// The list with supply is the list without, and conserve's records behind it.
-    #[test]
-    fn the_other_passes_stay_as_they_are() {
-        let text = "contract c { genesis { mint(1); } invariant y; entry e(x: Q_Asset) mints M { } }";
-        let image = example::image(text);
-        let [three, four] =
-            [asked(&image), asked_with(&image, &[false])].map(|answers| Report::of(&image, &answers));
-        assert!(three.verdicts().eq(four.verdicts().take(3)));
-        let (before, of_supply) = four.offences().split_at(three.offences().len());
-        assert_eq!(before, three.offences());
-        assert!(before.iter().map(|offence| offence.code).eq([38, 50, 61]));
-        assert!(of_supply.iter().map(|offence| offence.code).eq([72, 70]));
-    }
-
-    #[test]
-    fn an_image_without_entries_has_no_authority_to_give() {
-        let image = example::image("contract c { invariant 1; }");
-        let report = Report::of(&image, &asked_with(&image, &[]));
-        assert!(report.accepted(), "{report}");
-        assert_eq!((report.passes(), report.authority()), (Pass::ALL, Some(&[][..])));
-    }
-
-    /// The library answers 15 to authority that is not one for each entry.
-    #[test]
-    fn another_number_of_entries_is_not_accepted() {
-        let [image, _] = images();
-        for authority in [&[][..], &[true; 2], &[true; 3000]] {
-            assert_eq!(doubts(&image, &asked_with(&image, authority)), [Doubt::List(15)]);
-        }
-    }
-
-    /// Neither a record of supply nor a verdict on it is believed where the other is not there.
-    #[test]
-    fn supply_fails_closed() {
-        let image = example::image(MINTING);
-        for record in OF_MINTING {
-            let listed = |answers| Answers { count: 1, words: record.to_vec(), ..answers };
-            assert_eq!(doubts(&image, &listed(accepting())), [Doubt::Record(record)]);
-            let accepts = Some((vec![true; 3], ACCEPTS));
-            let doubted = doubts(&image, &listed(Answers { supply: accepts, ..accepting() }));
-            assert_eq!(doubted, [Doubt::Verdict(Pass::Conserve)]);
-        }
-        let said = isonkaypu_sys::conserve(&image, &[0; 3]);
-        for answer in [said, Answer { number: 15, ..ACCEPTS }, Answer { number: usize::MAX, ..ACCEPTS }] {
-            let answers = Answers { supply: Some((vec![false; 3], answer)), ..accepting() };
-            assert_eq!(doubts(&image, &answers), [Doubt::Verdict(Pass::Conserve)]);
         }
     }
 
     #[test]
     fn a_list_that_is_not_whole_is_not_accepted() {
         let [image, _] = images();
-        for number in [9, 1, 10, 15, usize::MAX] {
+        for number in [9, 1, 10, usize::MAX] {
             let answers = Answers { list: number, ..accepting() };
             assert_eq!(doubts(&image, &answers), [Doubt::List(number)]);
         }
@@ -354,7 +221,7 @@ mod tests {
     fn a_record_that_nobody_can_read_is_not_accepted() {
         let [_, image] = images();
         let nodes = Tree::of(&image).unwrap().len() as u16;
-        let codes = [[0, 0, 0, 0], [41, 5, 0, 2], [63, 5, 0, 2], [9, 5, 0, 2], [69, 5, 0, 2], [73, 5, 0, 2]];
+        let codes = [[0, 0, 0, 0], [41, 5, 0, 2], [63, 5, 0, 2], [9, 5, 0, 2]];
         let places = [[61, nodes, 0, 2], [61, 5, nodes, 2], [61, 65_535, 0, 2]];
         // no entry for a place in one, the contract, the place itself, no node, and an entry for a place in none
         let entries = [[61, 5, 0, 0], [61, 5, 0, 1], [61, 5, 0, 5], [61, 5, 0, nodes], [61, 1, 0, 2]];
@@ -401,7 +268,7 @@ mod tests {
             let mut short = vec![7; words.len() - 1];
             assert_eq!(isonkaypu_sys::list(&image, &mut short), (9, 0));
             assert!(short.iter().all(|word| *word == 7));
-            let report = Report::of(&image, &asked(&image));
+            let report = Report::of(&image, &Answers::of(&image).unwrap());
             assert_eq!(report.doubts(), []);
             let entry = |offence: &Offence| offence.entry.as_ref().map_or(0, |entry| entry.place.node as u16);
             assert!(report.offences().iter().map(entry).eq(records.iter().map(|[.., entry]| *entry)));
@@ -416,9 +283,9 @@ mod tests {
     fn a_verdicts_entry_is_seen_by_its_place() {
         for (text, entry) in [("invariant y; entry e() { }", None), ("entry e(x: Q_Asset) { }", Some(2))] {
             let image = example::image(&format!("contract c {{ {text} }}"));
-            let report = Report::of(&image, &asked(&image));
+            let report = Report::of(&image, &Answers::of(&image).unwrap());
             let tree = report.tree().unwrap();
-            let offences = report.verdicts().filter_map(|(_, verdict)| verdict.offence(&tree));
+            let offences = Pass::ALL.iter().filter_map(|pass| report.verdict(*pass).offence(&tree));
             let entries: Vec<_> = offences.map(|one| one.entry.map(|entry| entry.place.node)).collect();
             assert_eq!(entries, [entry], "{text}");
         }
@@ -427,14 +294,14 @@ mod tests {
     /// A contract with one 62, and what the library says of it.
     fn used_twice() -> (Vec<u8>, Answers) {
         let image = example::image("contract c { entry e(x: Q_Asset<M>) burns M { send(x, x); } }");
-        let answers = asked(&image);
+        let answers = Answers::of(&image).unwrap();
         (image, answers)
     }
 
     #[test]
     fn each_61_and_62_has_its_reasons() {
         let reasons = |image: &[u8]| {
-            let report = Report::of(image, &asked(image));
+            let report = Report::of(image, &Answers::of(image).unwrap());
             assert_eq!(report.doubts(), []);
             let of = |offence: &Offence| (offence.code, offence.reasons.as_ref().map(Vec::len));
             report.offences().iter().map(of).collect::<Vec<_>>()
@@ -442,10 +309,9 @@ mod tests {
         let [_, unused] = images();
         assert_eq!(reasons(&unused), [(61, Some(0))]);
         assert_eq!(reasons(&used_twice().0), [(39, None), (62, Some(3))]);
-        let report = Report::of(&unused, &asked(&unused));
+        let report = Report::of(&unused, &Answers::of(&unused).unwrap());
         let tree = report.tree().unwrap();
-        let first = report.verdict(Pass::Linear).and_then(|verdict| verdict.offence(&tree));
-        assert_eq!(first.map(|offence| (offence.code, offence.reasons)), Some((61, None)));
+        assert_eq!(report.verdict(Pass::Linear).offence(&tree).and_then(|offence| offence.reasons), None);
     }
 
     fn said(number: usize, words: &[u16]) -> Said {
@@ -485,7 +351,7 @@ mod tests {
             assert_eq!(doubts(&image, &Answers { why: *why, ..answers }), [Doubt::Reasons(62, 5)]);
         }
         let [_, unused] = images();
-        let answers = Answers { why: |_, _| said(0, &[5, 0]), ..asked(&unused) };
+        let answers = Answers { why: |_, _| said(0, &[5, 0]), ..Answers::of(&unused).unwrap() };
         assert_eq!(doubts(&unused, &answers), [Doubt::Reasons(61, 5)]);
     }
 

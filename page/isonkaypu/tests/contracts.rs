@@ -1,9 +1,6 @@
 //! Contracts as the parser gives them: which have no image, and that none is too deep.
 
-use isonkaypu::{
-    AuthorityError, Doubt, ImageRefusal, Limit, Lot, Offence, PackError, Report, WhyError, check,
-    check_image, check_with_authority,
-};
+use isonkaypu::{Doubt, ImageRefusal, Limit, Lot, Offence, PackError, Report, WhyError, check, check_image};
 use quanta_ast::*;
 use quanta_lexer::Span;
 
@@ -38,10 +35,7 @@ fn a_contract_that_passes_a_limit_is_an_error() {
     assert_eq!(said(of("é")), (Limit::NameForm, 5, HERE));
     let wide = vec![Expr::Now { span: HERE }; 3_000];
     let wide = Expr::Call { callee: Box::new(Expr::Ident(named("c"))), args: wide, span: HERE };
-    let wide = guarding(wide);
-    let error = check(&wide).expect_err("a limit");
-    assert_eq!(said(error), (Limit::Nodes, 3, HERE));
-    assert_eq!(check_with_authority(&wide, &[]), Err(AuthorityError::NoImage(error)));
+    assert_eq!(said(check(&guarding(wide)).expect_err("a limit")), (Limit::Nodes, 3, HERE));
 }
 
 /// Parts around an expression, by which a contract can be deep.
@@ -118,8 +112,6 @@ fn all_that_is_answered_is_send_and_sync() {
     holds::<ImageRefusal>();
     holds::<Lot>();
     holds::<WhyError>();
-    holds::<AuthorityError<PackError>>();
-    holds::<AuthorityError<ImageRefusal>>();
 }
 
 #[test]

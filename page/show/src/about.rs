@@ -1,7 +1,7 @@
 //! What a report says of itself: who made it, what was looked at, and what was not.
 
 use crate::Subject;
-use isonkaypu::{Pass, Report};
+use isonkaypu::Pass;
 
 pub const TOOL: &str = "isonkaypu";
 pub const VERSION: &str = env!("CARGO_PKG_VERSION");
@@ -26,26 +26,21 @@ pub struct Claim {
     pub means: &'static str,
 }
 
-/// The checks with their passes, in the order in which they run.
+/// The three checks with their passes, in the order in which they run.
 fn checks() -> impl Iterator<Item = (Pass, Claim)> {
     let claim = |term: &'static words::Term| Claim { word: &term.word, means: &term.means };
     Pass::ALL.iter().copied().zip(words::checks().iter().map(claim))
 }
 
-/// The checks that ran; none where the image could not be read.
+/// The checks that ran: all three, or none where the image could not be read.
 pub fn checked(subject: &Subject) -> Vec<(Pass, Claim)> {
-    let ran = subject.report().map_or(&[][..], Report::passes);
-    checks().filter(|(pass, _)| ran.contains(pass)).collect()
+    checks().filter(|_| subject.report().is_some()).collect()
 }
 
-/// What nobody may take for checked: what no rule looks at, and the checks where none ran. Of supply the gaps speak
-/// where it was not asked about.
+/// What nobody may take for checked: what no rule looks at, and the three checks where none ran.
 pub fn not_checked(subject: &Subject) -> Vec<Claim> {
-    let report = subject.report();
-    let always = |(pass, _): &(Pass, Claim)| Pass::WITHOUT_AUTHORITY.contains(pass);
-    let missed = checks().filter(always).filter(|_| report.is_none()).map(|(_, claim)| claim);
-    let supply = report.is_some_and(|report| report.authority().is_some());
-    let gaps = words::open_gaps(supply).map(|gap| Claim { word: &gap.word, means: &gap.means });
+    let missed = checks().filter(|_| subject.report().is_none()).map(|(_, claim)| claim);
+    let gaps = words::gaps().iter().map(|gap| Claim { word: &gap.word, means: &gap.means });
     missed.chain(gaps).collect()
 }
 

@@ -8,7 +8,6 @@ mod events;
 mod fields;
 mod lots;
 mod repeated;
-mod supply;
 mod written;
 
 use crate::edit::Way;
@@ -21,8 +20,6 @@ pub struct Asked<'a> {
     pub facts: Facts<'a>,
     pub offence: &'a Offence,
     pub offences: &'a [Offence],
-    /// What was said of each entry's signed authority; nothing where supply was not asked about.
-    pub authority: Option<&'a [bool]>,
 }
 
 /// How to mend an offence.
@@ -62,9 +59,6 @@ impl Asked<'_> {
             60 => self.second_name(),
             61 => self.never_used(),
             62 => self.used_twice(),
-            70 => Advice::new(Case::Plain, self.call_out()),
-            71 => self.no_mints_clause(),
-            72 => self.no_authority(),
             _ => Advice::new(Case::Plain, vec![]),
         }
     }
@@ -89,6 +83,6 @@ impl Asked<'_> {
 
     /// The same question for another offence of the report.
     fn of<'b>(&'b self, offence: &'b Offence) -> Asked<'b> {
-        Asked { offence, ..*self }
+        Asked { facts: self.facts, offence, offences: self.offences }
     }
 }

@@ -19,8 +19,6 @@ const ROOM: usize = 8;
 const CHANGING: &[&str] = &["merge", "split", "credit", "debit", "insert", "remove", "set"];
 /// Methods whose arguments are not used up.
 const READING: &[&str] = &["get", "contains", "has"];
-/// Functions that make new stock.
-pub const MINTING: &[&str] = &["mint", "mint_asset"];
 
 impl<'t> Facts<'t> {
     pub fn text(&self, node: usize) -> String {
@@ -160,19 +158,6 @@ impl<'t> Facts<'t> {
 
     fn is_any(&self, node: usize, texts: &[&str]) -> bool {
         texts.iter().any(|text| self.is(node, text))
-    }
-
-    /// Whether a node is a Call of one of these functions.
-    pub fn is_call_of(&self, node: usize, functions: &[&str]) -> bool {
-        let callee = node + 1;
-        self.tree.kind(node) == kind::CALL
-            && self.tree.kind(callee) == kind::IDENT
-            && self.is_any(callee, functions)
-    }
-
-    /// The Calls of an entry's statements that make new stock.
-    pub fn makes_stock(&self, entry: usize) -> Vec<usize> {
-        self.body(entry).filter(|node| self.is_call_of(*node, MINTING)).collect()
     }
 
     pub fn is_changing(method: &str) -> bool {

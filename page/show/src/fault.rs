@@ -39,7 +39,7 @@ impl Mark {
 #[derive(Clone, Debug, PartialEq)]
 #[non_exhaustive]
 pub struct Fault {
-    /// The code of document 01 or, for supply, 02.
+    /// Document 01's code.
     pub code: u16,
     /// The pass that found it.
     pub pass: Pass,
@@ -83,7 +83,7 @@ pub fn faults(report: &Report) -> Vec<Fault> {
     let facts = Facts { tree: &tree, lots: &Lots::of(report.image()) };
     let in_words = |offence: &Offence| {
         let said = words::code(offence.code).unwrap_or(&nothing);
-        fault(said, &Asked { facts, offence, offences: &offences, authority: report.authority() })
+        fault(said, &Asked { facts, offence, offences: &offences })
     };
     offences.iter().map(in_words).collect()
 }
@@ -93,7 +93,7 @@ fn offences<'r>(report: &'r Report, tree: &Tree) -> Cow<'r, [Offence]> {
     if !list_refused(report) {
         return Cow::Borrowed(report.offences());
     }
-    report.verdicts().filter_map(|(_, verdict)| verdict.offence(tree)).collect()
+    Pass::ALL.iter().filter_map(|pass| report.verdict(*pass).offence(tree)).collect()
 }
 
 /// "1 fault", "2 faults"

@@ -6,10 +6,8 @@ pub mod value;
 use crate::about::{self, TOOL, VERSION};
 use crate::region::Region;
 use crate::unread::Unread;
-use crate::{
-    Difference, Fault, Group, Mark, Source, Subject, Text, Use, authority, by_entry, faults, sha256,
-};
-use isonkaypu::{Doubt, Entry, Report, Span};
+use crate::{Difference, Fault, Group, Mark, Source, Subject, Text, Use, by_entry, faults, sha256};
+use isonkaypu::{Doubt, Entry, Pass, Report, Span};
 use value::{Value, list, object};
 
 /// What the form is called; it changes when a key goes or changes its meaning.
@@ -37,7 +35,6 @@ fn of(subject: &Subject) -> Value {
         ("image", subject.image().map(bytes).into()),
         ("source", text(subject.text())),
         ("outcome", outcome(subject, source.as_ref())),
-        ("authority", said_of_entries(subject, source.as_ref())),
         ("verdicts", report.map(verdicts).into()),
         ("offences", report.map(|report| offences(report, source.as_ref())).into()),
         ("by_entry", report.map(|report| groups(report, source.as_ref())).into()),
@@ -112,16 +109,9 @@ fn limit_place(at: Span, source: Option<&Source>) -> Value {
     object([("span", span(at)), ("region", Region::of(source, at).map(|r| region(&r)).into())])
 }
 
-/// What whoever asked said of each entry; null where supply was not asked about.
-pub fn said_of_entries(subject: &Subject, source: Option<&Source>) -> Value {
-    let said = subject.report().and_then(authority::said);
-    let one =
-        |(of, signed): &(Entry, bool)| object([("entry", entry(of, source)), ("signed", (*signed).into())]);
-    said.map(|said| list(said.iter().map(one))).into()
-}
-
 fn verdicts(report: &Report) -> Value {
-    list(report.verdicts().map(|(pass, verdict)| {
+    list(Pass::ALL.iter().map(|&pass| {
+        let verdict = report.verdict(pass);
         object([
             ("pass", pass.word().into()),
             ("checks", about::word(pass).into()),

@@ -4,7 +4,6 @@
 
 mod about;
 mod advice;
-mod authority;
 mod blanks;
 mod difference;
 mod edit;

@@ -2,11 +2,11 @@
 
 use crate::fault::list_refused;
 use crate::subject::{Outcome, Subject};
-use isonkaypu::{Offence, Pass, Place, Report, Verdict};
+use isonkaypu::{Offence, Pass, Place, Report};
 
 /// "It prints `image N` alone on refusal N. Otherwise: per pass a line (name, code, place, two span
 /// words), `list` and the count (or `list refused 9`), per record a line". Document 02 puts the entry into that line,
-/// "after related", and adds conserve's line and records where supply was asked about.
+/// "after related".
 ///
 /// Of a contract that has no image, `image N` is what its image would be refused with. Document 01 has no
 /// number, and no line, for an image that does not say what the contract says; then it is `not packed`, which
@@ -21,10 +21,11 @@ pub fn numbers(subject: &Subject) -> String {
 }
 
 fn pass_lines(report: &Report) -> String {
-    report.verdicts().map(|(pass, verdict)| pass_line(pass, verdict)).collect()
+    Pass::ALL.iter().map(|pass| pass_line(report, *pass)).collect()
 }
 
-fn pass_line(pass: Pass, verdict: Verdict) -> String {
+fn pass_line(report: &Report, pass: Pass) -> String {
+    let verdict = report.verdict(pass);
     let Place { node, span, .. } = verdict.place;
     format!("{} {} {node} {} {}\n", pass.word(), verdict.code, span.start, span.end)
 }

@@ -8,7 +8,6 @@ mod rules;
 mod trouble;
 
 use crate::about::{self, TOOL, VERSION};
-use crate::json::said_of_entries;
 use crate::json::value::{Value, list, object};
 use crate::{Fault, Source, Subject, escape, faults, sha256};
 use fingerprint::fingerprints;
@@ -66,7 +65,6 @@ fn image(subject: &Subject) -> Value {
         ("uri", escape::uri(subject.image_label()).into()),
         ("sha256", subject.image().map(sha256::hex).into()),
         ("complete", is_complete(subject).into()),
-        ("authority", said_of_entries(subject, source(subject).as_ref())),
         ("checked", list(about::checked(subject).iter().map(|(_, check)| check.word))),
         ("notChecked", list(about::not_checked(subject).iter().map(|gap| gap.word))),
     ])

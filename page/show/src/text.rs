@@ -13,7 +13,7 @@ use crate::source::Source;
 use crate::subject::Subject;
 use crate::terminal::{safe, wrapped};
 use crate::unread::Unread;
-use crate::{Group, about, authority, by_entry, entries, notice};
+use crate::{Group, about, by_entry, entries, notice};
 use form::Tree;
 use isonkaypu::{Entry, Pass, Report, Span};
 
@@ -88,7 +88,7 @@ fn checked(subject: &Subject, report: &Report, ink: Ink) -> String {
     opening(subject, report, faults.len(), ink)
         + &shown
         + &summary(report, &faults)
-        + &words::last_lines(faults.first().map(|fault| fault.code), authority::entries(subject).as_deref())
+        + &words::last_lines(faults.first().map(|fault| fault.code))
 }
 
 /// The banner and what is to be said before the faults.
@@ -135,7 +135,7 @@ fn answer(report: &Report, count: usize) -> (&'static str, String) {
 /// "3 faults: names 1, access 1, lots 1"; nothing where there are none.
 fn summary(report: &Report, faults: &[Fault]) -> String {
     let count = |pass: Pass| faults.iter().filter(|fault| fault.pass == pass).count();
-    let counts = report.passes().iter().map(|pass| (about::word(*pass), count(*pass)));
+    let counts = Pass::ALL.iter().map(|pass| (about::word(*pass), count(*pass)));
     let counts: Vec<String> = counts.filter(|(_, n)| *n > 0).map(|(word, n)| format!("{word} {n}")).collect();
     match (faults.is_empty(), list_refused(report)) {
         (true, _) => String::new(),

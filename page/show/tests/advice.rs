@@ -2,9 +2,10 @@
 //! report advises is followed by a program, and the library is asked whether the fault is gone and no new
 //! one has come.
 
-use crate::common::contracts::{TEMPLATES, contract, signed};
+use crate::common::contracts::{TEMPLATES, contract};
 use crate::common::follow::followed;
-use crate::common::{random, report_on_all};
+use crate::common::random;
+use isonkaypu::check_image;
 use show::{Edit, Fault, Way, faults};
 use std::collections::{BTreeMap, BTreeSet};
 use words::Case;
@@ -12,14 +13,10 @@ use words::Case;
 /// How many contracts are made from each template.
 const VARIANTS: u64 = 40;
 
-/// The faults of a contract's text, by the library; with a word on the entries, those of supply too.
-fn faults_with(text: &str, signed: Option<bool>) -> Vec<Fault> {
-    faults(&report_on_all(text, signed))
-}
-
-/// The same where supply is not asked about.
+/// The faults of a contract's text, by the library.
 fn faults_of(text: &str) -> Vec<Fault> {
-    faults_with(text, None)
+    let report = check_image(&example::image(text)).unwrap_or_else(|refusal| panic!("{refusal}: {text}"));
+    faults(&report)
 }
 
 fn after(text: &str, way: &Way) -> String {
@@ -34,15 +31,10 @@ fn counted(faults: &[Fault]) -> BTreeMap<u16, usize> {
 }
 
 /// The way is followed: one fault of this code less, and no more of any other.
-fn helps(text: &str, fault: &Fault, way: &Way, signed: Option<bool>) {
+fn helps(text: &str, fault: &Fault, way: &Way) {
     let mended = after(text, way);
-    let why = format!("{way:?}\n{text}\n{mended}");
-    has_helped(fault, &faults_with(text, signed), &faults_with(&mended, signed), &why);
-}
-
-fn has_helped(fault: &Fault, before: &[Fault], after: &[Fault], why: &str) {
-    let [before, after] = [before, after].map(counted);
-    let why = format!("[{}] {:?}: {}\n{why}", fault.code, fault.case, fault.mend);
+    let [before, after] = [text, &mended].map(|text| counted(&faults_of(text)));
+    let why = format!("[{}] {:?}: {}\n{way:?}\n{text}\n{mended}", fault.code, fault.case, fault.mend);
     assert!(after.get(&fault.code).unwrap_or(&0) < &before[&fault.code], "still there: {why}");
     for (code, count) in &after {
         assert!(count <= before.get(code).unwrap_or(&0), "a new {code}: {why}");
@@ -50,8 +42,8 @@ fn has_helped(fault: &Fault, before: &[Fault], after: &[Fault], why: &str) {
 }
 
 /// The fault of a template: the first of its code and case.
-fn of_template(code: u16, case: Case, text: &str, signed: Option<bool>) -> Fault {
-    let all = faults_with(text, signed);
+fn of_template(code: u16, case: Case, text: &str) -> Fault {
+    let all = faults_of(text);
     let found = all.iter().find(|fault| fault.code == code && fault.case == case);
     let said: Vec<_> = all.iter().map(|fault| (fault.code, fault.case)).collect();
     found.unwrap_or_else(|| panic!("no {code} {case:?} but {said:?}: {text}")).clone()
@@ -59,8 +51,8 @@ fn of_template(code: u16, case: Case, text: &str, signed: Option<bool>) -> Fault
 
 /// What the advice of a fault comes to where it is for people, or points to another fault: the ways of
 /// that one, or a stand-in for what only people can choose.
-fn by_hand(text: &str, fault: &Fault, signed: Option<bool>) -> Vec<Way> {
-    let all = faults_with(text, signed);
+fn by_hand(text: &str, fault: &Fault) -> Vec<Way> {
+    let all = faults_of(text);
     let of =
         |codes: &[u16]| all.iter().filter(|f| codes.contains(&f.code)).flat_map(|f| f.ways.clone()).collect();
     let node = fault.here.node;
@@ -70,7 +62,7 @@ fn by_hand(text: &str, fault: &Fault, signed: Option<bool>) -> Vec<Way> {
         (35 | 50, Case::Beside) => of(&[32]),
         (61, Case::Beside) => of(&[60]),
         (26, Case::Itself) => with(node, "0"),
-        (34 | 70 | 71, Case::Plain) => with(node + 1, "send"),
+        (34, Case::Plain) => with(node + 1, "send"),
         _ => vec![],
     }
 }
@@ -80,12 +72,6 @@ fn is_first(case: Case) -> bool {
     case == Case::First
 }
 
-/// Where an entry makes stock, 72 is mended by no edit: what an edit comes to is for whoever works the authority out,
-/// and nobody here does. What can be asked is whether their other word helps.
-fn is_word(code: u16, case: Case) -> bool {
-    (code, case) == (72, Case::Plain)
-}
-
 #[test]
 fn every_advice_helps() {
     let mut reached = BTreeSet::new();
@@ -93,17 +79,10 @@ fn every_advice_helps() {
     for (i, (code, case, items)) in TEMPLATES.iter().enumerate() {
         for variant in 0..VARIANTS {
             let text = contract(items, 1000 * i as u64 + variant);
-            let signed = signed(*code, *case);
-            let fault = of_template(*code, *case, &text, signed);
-            let ways =
-                if fault.ways.is_empty() { by_hand(&text, &fault, signed) } else { fault.ways.clone() };
-            let by_word = is_word(*code, *case);
-            assert_eq!(ways.is_empty(), by_word || is_first(*case), "nothing to follow: {fault:?}\n{text}");
-            ways.iter().for_each(|way| helps(&text, &fault, way, signed));
-            if by_word {
-                let [no, yes] = [false, true].map(|signed| faults_with(&text, Some(signed)));
-                has_helped(&fault, &no, &yes, &text);
-            }
+            let fault = of_template(*code, *case, &text);
+            let ways = if fault.ways.is_empty() { by_hand(&text, &fault) } else { fault.ways.clone() };
+            assert!(!ways.is_empty() || is_first(*case), "nothing to follow: {fault:?}\n{text}");
+            ways.iter().for_each(|way| helps(&text, &fault, way));
             reached.insert((*code, *case));
             followed += ways.len();
         }
@@ -124,79 +103,43 @@ fn names_first() {
         let text = contract(items, 7);
         let repeated =
             faults_of(&text).into_iter().find(|f| matches!(f.code, 25 | 27 | 29)).expect("a 25, 27 or 29");
-        helps(&text, &repeated, &repeated.ways[0], None);
+        helps(&text, &repeated, &repeated.ways[0]);
         let renamed = after(&text, &repeated.ways[0]);
         let left = faults_of(&renamed).into_iter().find(|f| f.code == *code || f.code == 61 || f.code == 62);
         let left = left.expect("one is left");
         assert!(left.case != Case::First && !left.ways.is_empty(), "{left:?}\n{renamed}");
-        left.ways.iter().for_each(|way| helps(&renamed, &left, way, None));
+        left.ways.iter().for_each(|way| helps(&renamed, &left, way));
     }
-}
-
-/// What is advised against any fault makes no fault of supply either, where that is asked about.
-#[test]
-fn no_advice_makes_a_fault_of_supply() {
-    let mut followed = 0;
-    for (i, (code, case, items)) in TEMPLATES.iter().enumerate() {
-        for (variant, signed) in [false, true].into_iter().enumerate() {
-            let text = contract(items, 1000 * i as u64 + variant as u64);
-            let all = faults_with(&text, Some(signed));
-            for fault in all.iter().filter(|fault| (fault.code, fault.case) == (*code, *case)) {
-                fault.ways.iter().for_each(|way| helps(&text, fault, way, Some(signed)));
-                followed += fault.ways.len();
-            }
-        }
-    }
-    assert!(followed > 200, "{followed}");
 }
 
 /// Contracts in which few names meet in every way: wherever one has a single fault, every way to mend it
 /// leaves none.
 #[test]
 fn one_fault_by_chance() {
-    let (followed, reached) = follow_by_chance(None);
-    assert!(followed > 3_000 && reached.len() > 40, "{followed} {}", reached.len());
-}
-
-/// The same where supply is asked about, with one word on all entries.
-#[test]
-fn one_fault_by_chance_with_supply() {
-    for signed in [false, true] {
-        let (followed, reached) = follow_by_chance(Some(signed));
-        assert!(followed > 3_000 && reached.len() > 40, "{followed} {}", reached.len());
-        let of_supply = reached.iter().filter(|(code, _)| words::SUPPLY.contains(code)).count();
-        assert!(of_supply >= 3, "{reached:?}");
-    }
-}
-
-/// How many ways were followed, and which cases were met.
-fn follow_by_chance(signed: Option<bool>) -> (usize, BTreeSet<(u16, Case)>) {
     let (mut followed, mut reached) = (0, BTreeSet::new());
     for seed in 0..60_000 {
         let text = random::contract(seed);
-        let [fault] = &faults_with(&text, signed)[..] else { continue };
+        let [fault] = &faults_of(&text)[..] else { continue };
         reached.insert((fault.code, fault.case));
         for way in &fault.ways {
             let mended = after(&text, way);
-            let left = faults_with(&mended, signed);
+            let left = faults_of(&mended);
             assert!(left.is_empty(), "{}\n{way:?}\n{text}\n{mended}\n{left:?}", fault.mend);
             followed += 1;
         }
     }
     println!("{} cases, {followed} advices followed", reached.len());
-    (followed, reached)
+    assert!(followed > 3_000 && reached.len() > 40, "{followed} {}", reached.len());
 }
 
 /// The examples of the file of words: their advice helps too.
 #[test]
 fn the_examples() {
     for entry in words::codes() {
-        let signed = entry.authority_before.chars().next().map(|digit| digit == '1');
-        let fault = faults_with(&entry.before, signed).remove(0);
-        let ways =
-            if fault.ways.is_empty() { by_hand(&entry.before, &fault, signed) } else { fault.ways.clone() };
-        assert_eq!(ways.is_empty(), is_word(fault.code, fault.case), "{}", entry.number);
-        ways.iter().for_each(|way| helps(&entry.before, &fault, way, signed));
+        let fault = faults_of(&entry.before).remove(0);
+        let ways = if fault.ways.is_empty() { by_hand(&entry.before, &fault) } else { fault.ways.clone() };
+        assert!(!ways.is_empty(), "{}", entry.number);
+        ways.iter().for_each(|way| helps(&entry.before, &fault, way));
     }
 }
 
@@ -206,7 +149,7 @@ fn the_examples() {
 fn the_sentence_names_what_the_way_writes() {
     for (i, (code, case, items)) in TEMPLATES.iter().enumerate() {
         let text = contract(items, 1000 * i as u64);
-        let fault = of_template(*code, *case, &text, signed(*code, *case));
+        let fault = of_template(*code, *case, &text);
         let named = |name: &str| fault.mend.contains(&format!("`{name}`"));
         match case {
             Case::Near | Case::Changes => {
@@ -217,17 +160,6 @@ fn the_sentence_names_what_the_way_writes() {
             Case::Qtov | Case::Deployer | Case::Local | Case::Single if *code != 61 => {
                 assert!(fault.mend.contains("take "), "{}", fault.mend);
                 assert!(fault.ways.iter().flatten().any(|edit| matches!(edit, Edit::Remove { .. })));
-            }
-            Case::Unminted => {
-                assert!(fault.mend.contains("take "), "{}", fault.mend);
-                assert!(fault.ways[0].iter().all(|edit| matches!(edit, Edit::Remove { .. })));
-            }
-            Case::Signed => {
-                let clauses = fault.ways.iter().flatten().filter_map(|edit| match edit {
-                    Edit::Clause { text, .. } => Some(text),
-                    _ => None,
-                });
-                assert!(clauses.clone().next().is_some() && clauses.into_iter().all(|text| named(text)));
             }
             Case::Clause | Case::Wrong => {
                 let text = fault.ways[0].iter().find_map(|edit| match edit {
@@ -253,7 +185,7 @@ fn long_names() {
     {
         let text = format!("contract C {{ {} }}", items.replace('L', &long));
         let fault = faults_of(&text).remove(0);
-        fault.ways.iter().for_each(|way| helps(&text, &fault, way, None));
+        fault.ways.iter().for_each(|way| helps(&text, &fault, way));
     }
 }
 

@@ -2,11 +2,10 @@
 //! more than the rules look at.
 
 use crate::common::json::Json;
-use crate::common::{report_on_all, shown, shown_example, shown_source};
-use show::Subject;
+use crate::common::{shown, shown_source};
 
 /// Text as it is read: on one line, without the signs of HTML.
-pub fn joined(text: &str) -> String {
+fn joined(text: &str) -> String {
     let signs =
         [("<code>", "`"), ("</code>", "`"), ("&lt;", "<"), ("&gt;", ">"), ("&#39;", "'"), ("&quot;", "\"")];
     let plain = signs.iter().fold(text.to_string(), |text, (sign, plain)| text.replace(sign, plain));
@@ -29,31 +28,27 @@ fn every_form_but_the_numbers_names_every_check_and_every_gap() {
             // the page begins them with a capital letter
             assert!(html.contains(&one.word[1..]) && html.contains(&one.means[1..]), "{}", one.word);
         }
-        for check in words::checks() {
-            assert_eq!(html.contains(&check.means[1..]), check.word != "supply", "{}", check.word);
-        }
+        assert!(words::checks().iter().all(|check| html.contains(&check.means[1..])));
     }
     let accepted = "contract C { }";
     let json = Json::read(&shown_source(show::json, accepted));
-    let checked = ["names", "access", "lots"];
     assert_eq!(
         (words_of(&json, "checked"), words_of(&json, "not_checked")),
-        (checked.to_vec(), gaps.clone())
+        (words::CHECKS.to_vec(), gaps.clone())
     );
     let sarif = Json::read(&shown_source(show::sarif, accepted));
-    assert_eq!(words_of(&sarif, "runs/0/properties/images/0/checked"), checked);
+    assert_eq!(words_of(&sarif, "runs/0/properties/images/0/checked"), words::CHECKS);
     assert_eq!(words_of(&sarif, "runs/0/properties/images/0/notChecked"), gaps);
     let notes = sarif.at("runs/0/invocations/0/toolExecutionNotifications/0/message/text").text();
     assert!(gaps.iter().all(|gap| notes.contains(gap)), "{notes}");
 }
 
-/// Sentences that said more than the rules look at do not come back, whether or not supply is asked about.
+/// Sentences that said more than the rules look at do not come back.
 #[test]
 fn no_form_says_more_than_the_rules_look_at() {
-    for (gap, signed) in words::gaps().iter().flat_map(|gap| [(gap, None), (gap, Some(true))]) {
-        let report = report_on_all(&gap.example, signed);
+    for gap in words::gaps() {
         for form in [show::text, show::html, show::json, show::sarif] {
-            let shown = form(&Subject::checked("x", &report).with_source("x", gap.example.as_bytes()));
+            let shown = shown_source(form, &gap.example);
             for claim in
                 ["in order", "every name must be declared", "none may be lost", "is safe", "is correct"]
             {
@@ -67,7 +62,7 @@ fn no_form_says_more_than_the_rules_look_at() {
 #[test]
 fn cards_say_how_at_length() {
     for entry in words::codes() {
-        let html = joined(&shown_example(show::html, entry));
+        let html = joined(&shown_source(show::html, &entry.before));
         for paragraph in entry.how.split("\n\n") {
             assert!(html.contains(&joined(paragraph)[1..]), "{}: {paragraph}", entry.number);
         }

@@ -35,7 +35,7 @@ const ATTRIBUTES: &[&str] = &[
 ];
 
 /// Every tag is one of ours, tags nest, and links lead to places of the same page.
-pub fn sound(html: &str) -> Vec<Tag> {
+fn sound(html: &str) -> Vec<Tag> {
     let tags = tags(html);
     let mut open = Vec::new();
     for tag in &tags {

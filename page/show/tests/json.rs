@@ -8,7 +8,6 @@ use crate::common::{fitted, images, respanned, sample, shown, shown_source, show
 use isonkaypu::Limit;
 
 const KEYS: &[&str] = &[
-    "authority",
     "by_entry",
     "checked",
     "complete",

@@ -17,7 +17,6 @@ mod others;
 mod readme;
 mod sarif;
 mod sentences;
-mod supply;
 mod text;
 mod uses;
 mod why;

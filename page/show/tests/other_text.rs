@@ -153,7 +153,7 @@ shown.
 
 ";
     let shown = other_text_accepted(show::text);
-    assert_eq!(shown, format!("{expected}{}{}\n", words::last_lines(None, None), show::made_by()));
+    assert_eq!(shown, format!("{expected}{}{}\n", words::last_lines(None), show::made_by()));
     assert!(other_text(show::text).contains("The image alone is refused: 3 faults. "));
 }
 

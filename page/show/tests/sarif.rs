@@ -142,7 +142,7 @@ fn is_absolute(uri: &str) -> bool {
 }
 
 /// A log that the standard admits, with what binds its parts to each other.
-pub fn admitted(text: &str) -> Json {
+fn admitted(text: &str) -> Json {
     let log = Json::read(text);
     hold(&log, "sarifLog", "");
     for run in log.at("runs").list() {
@@ -335,8 +335,8 @@ fn related_places_are_linked() {
         "{message}"
     );
     // what stands in a link is what its place is called
-    for entry in words::codes() {
-        let log = admitted(&common::shown_example(show::sarif, entry));
+    for source in words::codes().iter().map(|entry| &entry.before) {
+        let log = admitted(&shown_source(show::sarif, source));
         for result in log.at("runs/0/results").list() {
             for place in result.at("relatedLocations").list() {
                 let link = format!("[{}]({})", place.at("message/text").text(), place.at("id").number());

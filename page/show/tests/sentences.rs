@@ -1,11 +1,12 @@
 //! Every sentence with the contract's names filled in.
 
-use crate::common::{report_on, report_on_all};
-use isonkaypu::Pass;
+use isonkaypu::{Pass, check_image};
 use show::{Fault, faults};
 
 fn faults_of(example: &str) -> Vec<Fault> {
-    faults(&report_on(example, ""))
+    let report =
+        check_image(&example::image(example)).unwrap_or_else(|refusal| panic!("{refusal}: {example}"));
+    faults(&report)
 }
 
 /// The only fault of an example, in which it stands in for the items of a contract.
@@ -36,7 +37,7 @@ fn filled(template: &str, sentence: &str, before: &str) {
 #[test]
 fn the_examples() {
     for entry in words::codes() {
-        let fault = faults(&report_on(&entry.before, &entry.authority_before)).remove(0);
+        let fault = faults_of(&entry.before).remove(0);
         assert_eq!((fault.code, &fault.title), (entry.number, &entry.title));
         filled(&entry.fault, &fault.sentence, &entry.before);
         let mend = entry.mend_for(fault.case);
@@ -274,58 +275,5 @@ fn a_mend_for_each_case() {
         let faults = faults_of(&format!("contract C {{ {items} }}"));
         let fault = faults.iter().find(|fault| fault.code == *code).expect("the code");
         assert_eq!(fault.mend, *mend, "{code} {items}");
-    }
-}
-
-/// What is said of supply in the items of a contract with these words on all of its entries: the sentence, what stands
-/// at the place, and how to mend it.
-fn of_supply(items: &str, signed: bool) -> [String; 3] {
-    let mut faults = faults(&report_on_all(&format!("contract C {{ {items} }}"), Some(signed)));
-    let fault = faults.pop().expect("a fault");
-    assert_eq!((fault.pass, faults.len()), (Pass::Conserve, 0), "{items}");
-    [fault.sentence, fault.here.label, fault.mend]
-}
-
-#[test]
-fn supply_in_genesis() {
-    let mend = "take this call out of genesis, and make the stock in an entry with a `mints` clause and signed authority";
-    for function in ["mint", "mint_asset"] {
-        let sentence = format!("genesis makes new stock, by `{function}`");
-        let items = format!("asset M; genesis {{ {function}(5); }}");
-        assert_eq!(of_supply(&items, true), [&sentence, "new stock is made here", mend]);
-    }
-}
-
-/// The mend goes by what was said of the entry: a clause without signed authority is the next fault.
-#[test]
-fn supply_without_a_clause() {
-    let said = |items: &str, signed| of_supply(&format!("{items} entry e() {{ mint(5); }}"), signed);
-    let sentence = "entry `e` makes new stock, by `mint`, but has no `mints` clause";
-    let with = |mend| [sentence, "new stock is made here", mend].map(str::to_string);
-    let unsigned = "take this call out, or let the entry be signed first (72), and then add a `mints` clause: this \
-                    entry has no signed authority";
-    assert_eq!([said("", false), said("asset M;", false)], [with(unsigned), with(unsigned)]);
-    assert_eq!(said("asset M;", true), with("add a clause `mints M` to the entry, or take this call out"));
-    let two = "add a clause `mints M` or `mints N` to the entry, or take this call out";
-    assert_eq!(said("asset M; asset N;", true), with(two));
-    let none = "declare the asset that is made by an `asset` line, and add a `mints` clause with its name to the \
-                entry; or take this call out";
-    assert_eq!(said("", true), with(none));
-}
-
-/// Where the entry makes stock no edit of the text is offered, since the word of whoever asks decides.
-#[test]
-fn supply_without_authority() {
-    let said =
-        |body: &str| of_supply(&format!("asset M; event E(a: u64); entry e() mints M {{ {body} }}"), false);
-    let signed = "signed by a party or a quorum whose key is set only in genesis or by an entry with signed authority, \
-                  and have the authority worked out again";
-    let makes = format!("let `e` be {signed}: no other change of the text helps while the entry makes stock");
-    let idle = format!("take `mints M` out: the entry makes nothing; or let it be {signed}");
-    let sentence = "entry `e` says `mints M`, but has no signed authority";
-    for (body, mend) in
-        [("mint(5);", &makes), ("emit E(mint_asset(1, 2));", &makes), ("", &idle), ("mint;", &idle)]
-    {
-        assert_eq!(said(body), [sentence, "this clause", mend], "{body}");
     }
 }

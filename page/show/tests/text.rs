@@ -72,7 +72,7 @@ REFUSED  ward.quanta: 2 faults
 
 2 faults: access 1, lots 1
 ";
-    assert_eq!(of(WARD), expected.to_string() + &words::last_lines(Some(51), None));
+    assert_eq!(of(WARD), expected.to_string() + &words::last_lines(Some(51)));
 }
 
 #[test]
@@ -92,7 +92,7 @@ REFUSED  ward.quanta: 2 faults
 
 2 faults: access 1, lots 1
 ";
-    assert_eq!(shown(&example::image(WARD), None), expected.to_string() + &words::last_lines(Some(51), None));
+    assert_eq!(shown(&example::image(WARD), None), expected.to_string() + &words::last_lines(Some(51)));
 }
 
 /// Document 01's P9: both lines are shown, that of the clause and that of the use.
@@ -118,7 +118,7 @@ REFUSED  ward.quanta: 1 fault
 
 1 fault: lots 1
 ";
-    assert_eq!(of(BURNED_AND_SENT), expected.to_string() + &words::last_lines(Some(62), None));
+    assert_eq!(of(BURNED_AND_SENT), expected.to_string() + &words::last_lines(Some(62)));
     let related = common::related_of_62(BURNED_AND_SENT).expect("a related place");
     let place = format!(
         "node {}, bytes {} to {}: its second use, taken by the call `send`",
@@ -159,7 +159,7 @@ fn accepted_and_not_read() {
 ACCEPTED  ward.quanta: no faults
 
 ";
-    assert_eq!(of("contract Empty { }"), accepted.to_string() + &words::last_lines(None, None));
+    assert_eq!(of("contract Empty { }"), accepted.to_string() + &words::last_lines(None));
     let not_read = "\
 NOT READ  ward.quanta
 

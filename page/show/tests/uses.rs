@@ -2,7 +2,7 @@
 
 use crate::common::contracts::{BURNED_AND_SENT, BURNED_TWICE};
 use crate::common::json::Json;
-use crate::common::{report_on, sample, shown, shown_source};
+use crate::common::{sample, shown, shown_source};
 use isonkaypu::{Reason, check_image};
 use show::faults;
 
@@ -93,7 +93,7 @@ fn faults_without_reasons() {
     let p2 = Json::read(&shown(show::json, "p2.image", &sample("p2.image"), None));
     assert_eq!((p2.at("offences/0/code").number(), p2.at("offences/0/reasons").list()), (61, &[][..]));
     for entry in words::codes() {
-        let report = report_on(&entry.before, &entry.authority_before);
+        let report = check_image(&example::image(&entry.before)).expect("an image");
         for fault in faults(&report) {
             assert_eq!(fault.reasons.is_some(), [61, 62].contains(&fault.code), "{}", fault.code);
         }

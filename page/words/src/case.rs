@@ -54,14 +54,6 @@ pub enum Case {
     Burned,
     /// The same, and nothing else uses another lot.
     Needed,
-    /// The entry has signed authority.
-    Signed,
-    /// The same, and no asset is declared.
-    Undeclared,
-    /// The entry makes nothing.
-    Unminted,
-    /// The entry makes stock, and has no other `mints` clause.
-    Minted,
 }
 
 use Case::*;
@@ -79,7 +71,7 @@ const OF_CODES: &[(u16, &[Case])] = &[
     (35, &[Near, Taken, Beside]),
     (36, &[Near, Taken, Deployer]),
     (37, &[Near, Single]),
-    (38, &[Qtov, Near, Single, Minted]),
+    (38, &[Qtov, Near, Single]),
     (39, &[Qtov, Near, Single]),
     (40, &[Assign]),
     (50, &[Near, Taken, Beside]),
@@ -87,8 +79,6 @@ const OF_CODES: &[(u16, &[Case])] = &[
     (60, &[Both]),
     (61, &[Burn, Beside, First, Deployer]),
     (62, &[Burned, Needed, First]),
-    (71, &[Signed, Undeclared]),
-    (72, &[Unminted]),
 ];
 
 impl Case {
@@ -125,10 +115,6 @@ impl Case {
             Burn => "mend burn",
             Burned => "mend burned",
             Needed => "mend needed",
-            Signed => "mend signed",
-            Undeclared => "mend undeclared",
-            Unminted => "mend unminted",
-            Minted => "mend minted",
         }
     }
 }

@@ -6,7 +6,7 @@ use crate::{Term, checks, code, explain, explain_list, explain_term, gaps, gloss
 /// What is asked for when somebody wants to know what was not checked.
 const CLAIMS: [&str; 3] = ["not-checked", "not checked", "checked"];
 
-/// The explanation of a number (`62`, `code 62`, `image 5`, `9`, `13`, `15`) or of a word (`lot`, `burns`, `linear`,
+/// The explanation of a number (`62`, `code 62`, `image 5`, `9`, `13`) or of a word (`lot`, `burns`, `linear`,
 /// `not-checked`); all that there is, where nothing is asked for. `None` where there is nothing by this
 /// name.
 pub fn find(asked: &[&str]) -> Option<String> {
@@ -14,11 +14,9 @@ pub fn find(asked: &[&str]) -> Option<String> {
     let entry = match asked {
         [] => return Some(explain_list()),
         ["image", n] | ["list", "refused", n] => number(n).filter(|n| *n < 10).and_then(refusal),
-        // these alone are no codes: a report prints 9 beside the codes, as `list refused 9`, 10 and 13 are what the
-        // question why a lot is refused is answered with, and 15 is what authority that does not fit is
-        [n @ ("9" | "10" | "13" | "15")]
-        | ["why", "refused", n @ ("10" | "13")]
-        | ["authority", "refused", n @ "15"] => number(n).and_then(refusal),
+        // these alone are no codes: a report prints 9 beside the codes, as `list refused 9`, and 10 and 13 are
+        // what the question why a lot is refused is answered with
+        [n @ ("9" | "10" | "13")] | ["why", "refused", n @ ("10" | "13")] => number(n).and_then(refusal),
         ["code", n] | [n] => number(n).and_then(code),
         _ => None,
     };

@@ -1,8 +1,8 @@
 //! The help page and the words of `explain`, made from the file of words.
 
 use crate::{
-    CODES, Entry, Gap, OTHER_TEXT, SUPPLY, Term, USES_OF_A_LOT, checks, checks_run, codes, gaps, glossary,
-    lines, open_gaps, refusals, statuses,
+    CHECKS, Entry, Gap, OTHER_TEXT, Term, USES_OF_A_LOT, checks, codes, gaps, glossary, lines, refusals,
+    statuses,
 };
 
 /// How wide the text of `explain` is.
@@ -12,7 +12,6 @@ const WIDTH: usize = 88;
 fn said(entry: &Entry) -> String {
     match entry.number {
         9 => "list refused 9".to_string(),
-        15 => "authority refused 15".to_string(),
         10..20 => format!("why refused {}", entry.number),
         n if n < 20 => format!("image {n}"),
         n => format!("code {n}"),
@@ -27,14 +26,13 @@ pub fn explain(entry: &Entry) -> String {
     for (heading, part) in parts {
         text += &format!("\n{heading}\n{}", wrapped(part));
     }
-    for (heading, example) in entry.examples(EXAMPLES) {
-        text += &format!("\n{heading}\n{}", inset(example));
+    for (heading, example) in [("Before", &entry.before), ("After", &entry.after)] {
+        if !example.is_empty() {
+            text += &format!("\n{heading}\n{}", inset(example));
+        }
     }
     text
 }
-
-/// What stands over an example with a fault, and over the same mended.
-const EXAMPLES: [&str; 2] = ["Before", "After"];
 
 /// `explain` with a word of the language.
 pub fn explain_term(term: &Term) -> String {
@@ -44,7 +42,7 @@ pub fn explain_term(term: &Term) -> String {
 /// `explain` alone: everything that can be asked for.
 pub fn explain_list() -> String {
     let row = |(what, title): (String, &str)| format!("  {what:<10} {title}\n");
-    // what is asked for is what finds it: `image 9` too, but 10, 13 and 15 are never an image's
+    // what is asked for is what finds it: `image 9` too, but 10 and 13 are never an image's
     let asked = |number: u16| if number < 10 { format!("image {number}") } else { number.to_string() };
     let refusals: String = refusals().iter().map(|e| row((asked(e.number), &e.title))).collect();
     let codes: String = codes().iter().map(|e| row((e.number.to_string(), &e.title))).collect();
@@ -54,34 +52,17 @@ pub fn explain_list() -> String {
 }
 
 /// The last lines of a report on a contract, for people: what was checked, what was not, and where to
-/// read more. The code is that of a fault to read about. Where supply was checked, `authority` names the entries that
-/// have signed authority, as whoever asked said.
-pub fn last_lines(code: Option<u16>, authority: Option<&str>) -> String {
-    let supply = authority.is_some();
-    let gaps = open_gaps(supply).map(|gap| gap.word.as_str()).collect::<Vec<_>>().join(", ");
-    let said = authority.map_or(String::new(), |entries| line(&format!("{}.", said_of_authority(entries))));
+/// read more. The code is that of a fault to read about.
+pub fn last_lines(code: Option<u16>) -> String {
+    let words = gaps().iter().map(|gap| gap.word.as_str()).collect::<Vec<_>>().join(", ");
+    let not_checked = wrapped(&format!("NOT checked: {words}."));
     let more = code.map_or(String::new(), |code| format!("`isonkaypu explain {code}`, "));
     format!(
-        "Checked: {}, as far as the rules 20 to {} go.\n{said}{}Read more: {more}`isonkaypu explain not-checked`\n",
-        checks_run(supply).join(", "),
-        last_rule(supply),
-        line(&format!("NOT checked: {gaps}.")),
+        "Checked: {}, as far as the rules 20 to 62 go.\n{}Read more: {more}`isonkaypu explain not-checked`\n",
+        CHECKS.join(", "),
+        // the first line begins where the others are set in
+        not_checked.trim_start()
     )
-}
-
-/// What a report says of the entries that have signed authority, as whoever asked said.
-pub fn said_of_authority(entries: &str) -> String {
-    format!("Signed authority, taken from whoever asked, not checked here: {entries}")
-}
-
-fn last_rule(supply: bool) -> u16 {
-    let run = |code: &&u16| supply || !SUPPLY.contains(code);
-    CODES.iter().rfind(run).copied().unwrap_or_default()
-}
-
-/// Text that is set in from its second line on.
-fn line(text: &str) -> String {
-    wrapped(text).trim_start().to_string()
 }
 
 /// `explain not-checked`: what the checks look at, and what none of them does.
@@ -89,7 +70,7 @@ pub fn explain_claims() -> String {
     let checks: String = checks().iter().map(|term| format!("\n{}", explain_term(term))).collect();
     let gap = |gap: &Gap| format!("\n{}\n{}\n{}", gap.word, wrapped(&gap.means), inset(&gap.example));
     let gaps: String = gaps().iter().map(gap).collect();
-    format!("Checked\n{}{checks}\nNOT checked: {GAPS}\n{gaps}", wrapped(CHECKED))
+    format!("Checked\n{checks}\nNOT checked: {GAPS}\n{gaps}")
 }
 
 /// `explain` with a check: what it looks at.
@@ -137,14 +118,13 @@ pub fn help_page() -> String {
         section("The lines of a report", LINES, &terms(lines_of_numbers())),
         section("The same for people", PEOPLE, &people()),
         section("Why is this lot refused?", WHY, &terms(lines_of_why())),
-        section("Checked", &format!("{CHECKED}\n\n"), &terms(checks())),
+        section("Checked", CHECKED, &terms(checks())),
         section("Not checked", NOT_CHECKED, &gaps().iter().map(gap_entry).collect::<Vec<_>>().join("\n")),
         section("Exit statuses", STATUSES, &terms(statuses())),
         section("The image: refusals", IMAGE, &entries(refusals())),
         section("Resolve: names", RESOLVE, &entries(coded(20..=40))),
         section("Access: who changes what", "", &entries(coded(50..=51))),
         section("Linear: each lot is used exactly once", LINEAR, &entries(coded(60..=62))),
-        section("Conserve: supply", CONSERVE, &entries(coded(70..=72))),
     ];
     sections.join("\n")
 }
@@ -177,20 +157,13 @@ the line of a 61 or 62 it is the second number. For a number that is no lot's th
 
 ";
 
-const AUTHORITY: &str = "\
-With `--authority 01` supply is checked too. There is a digit for each entry, in the order of your text: 1 where it has
-signed authority, 0 where it has none (see \"authority\" above). The report then shows the faults 70 to 72 as well, and its
-last lines say which entries were said to have signed authority:
+const CHECKED: &str = "\
+Three checks run, by the rules 20 to 62 below. They see to it that:
 
 ";
 
-const CHECKED: &str = "\
-Three checks run on every contract, by the rules 20 to 62. The fourth, of supply, by the rules 70 to 72, runs where
-whoever asks says which entries have signed authority: `isonkaypu check FILE --authority 01`. They see to it that:";
-
 const NOT_CHECKED: &str = "\
-No rule looks at the following, but for supply where it is asked about. An accepted contract can be wrong in each of
-them, and each example is accepted.
+No rule looks at the following. An accepted contract can be wrong in each of them, and each example is accepted.
 
 ";
 
@@ -201,8 +174,7 @@ Of `isonkaypu` and of `./report`, for programs that call them.
 
 const IMAGE: &str = "\
 Given before anything is checked; the first that applies is given. 1 to 8 are printed as `image N`. 9 is about the list
-alone, 10 and 13 about the question why a lot is refused: 13 is tested before 10. 15 is about the authority that was
-given for the check of supply, and is tested before 9.
+alone, 10 and 13 about the question why a lot is refused: 13 is tested before 10.
 
 ";
 
@@ -217,21 +189,13 @@ a use stands under \"use of a lot\" above.
 
 ";
 
-const CONSERVE: &str = "\
-Looked for only where whoever asks says which entries have signed authority (see \"authority\" above). New stock is made
-by a call of `mint` or `mint_asset`.
-
-";
-
 fn section(heading: &str, opening: &str, body: &str) -> String {
     format!("## {heading}\n\n{opening}{body}")
 }
 
 /// What stands at the end of a report for people, and its other lines.
 fn people() -> String {
-    let [three, four] =
-        [(62, None), (72, Some("entry `make`"))].map(|(code, said)| inset(&last_lines(Some(code), said)));
-    format!("{three}\n{AUTHORITY}{four}\n{}", terms(lines_for_people()))
+    format!("{}\n{}", inset(&last_lines(Some(62))), terms(lines_for_people()))
 }
 
 /// The lines of numbers come first, then those for people, then those of the answer why.
@@ -289,11 +253,13 @@ fn entries(entries: &[Entry]) -> String {
 }
 
 fn entry(entry: &Entry) -> String {
-    let Entry { title, means, matters, how, .. } = entry;
-    let example = |(title, text): (String, &str)| format!("\n{title}:\n\n{}", inset(text));
-    let examples: String = entry.examples(EXAMPLES).into_iter().map(example).collect();
-    format!(
-        "### `{}`: {title}\n\n{means}\n\n**Why it matters.** {matters}\n\n**How to mend it.** {how}\n{examples}",
+    let Entry { title, means, matters, how, before, after, .. } = entry;
+    let text = format!(
+        "### `{}`: {title}\n\n{means}\n\n**Why it matters.** {matters}\n\n**How to mend it.** {how}\n",
         said(entry)
-    )
+    );
+    if before.is_empty() {
+        return text;
+    }
+    format!("{text}\nBefore:\n\n{}\nAfter:\n\n{}", inset(before), inset(after))
 }

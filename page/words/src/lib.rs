@@ -10,9 +10,7 @@ mod read;
 
 pub use case::Case;
 pub use find::find;
-pub use help::{
-    explain, explain_claims, explain_list, explain_term, help_page, last_lines, said_of_authority,
-};
+pub use help::{explain, explain_claims, explain_list, explain_term, help_page, last_lines};
 pub use read::{Trouble, read};
 
 use std::sync::OnceLock;
@@ -63,27 +61,9 @@ pub struct Entry {
     pub before: String,
     /// The same, mended.
     pub after: String,
-    /// What is said of the entries of `before` when it is checked, for the codes of supply: a digit for each, 1 for
-    /// signed authority and 0 for none.
-    pub authority_before: String,
-    /// The same of the entries of `after`.
-    pub authority_after: String,
 }
 
 impl Entry {
-    /// The example before and after under these titles, with what is said of its entries where that is; nothing where
-    /// there is no example.
-    pub fn examples(&self, titles: [&str; 2]) -> Vec<(String, &str)> {
-        let texts = [(&self.before, &self.authority_before), (&self.after, &self.authority_after)];
-        let title = |title: &str, authority: &str| match authority {
-            "" => title.to_string(),
-            digits => format!("{title}, with `--authority {digits}`"),
-        };
-        let titled = titles.into_iter().zip(texts);
-        let shown = titled.filter(|(_, (text, _))| !text.is_empty());
-        shown.map(|(of, (text, authority))| (title(of, authority), text.as_str())).collect()
-    }
-
     /// How to mend it, in one line, for a case.
     pub fn mend_for(&self, case: Case) -> &str {
         self.mends.iter().find(|(of, _)| *of == case).map_or(&self.mend, |(_, mend)| mend)
@@ -110,8 +90,6 @@ pub struct Gap {
     pub word: String,
     /// What is not looked at.
     pub means: String,
-    /// The check that looks at it where it is asked for; empty where none ever does.
-    pub closed: String,
     /// A contract that is wrong in this, and is accepted.
     pub example: String,
 }
@@ -126,7 +104,7 @@ pub struct Words {
     pub lines: Vec<Term>,
     /// The exit statuses.
     pub statuses: Vec<Term>,
-    /// The checks.
+    /// The three checks.
     pub checks: Vec<Term>,
     /// What is not checked.
     pub gaps: Vec<Gap>,
@@ -142,20 +120,15 @@ pub const OTHER_TEXT: &str = "OTHER TEXT";
 /// How the answer to `isonkaypu why` begins, as the help page has it.
 pub const USES_OF_A_LOT: &str = "N USES  FILE: the lot NAME of entry ENTRY, node NODE";
 
-/// What people call the checks, in the order in which they run. The last one runs where it is asked for.
-pub const CHECKS: [&str; 4] = ["names", "access", "lots", "supply"];
+/// What people call the three checks, in the order in which they run.
+pub const CHECKS: [&str; 3] = ["names", "access", "lots"];
 
-/// The codes of documents 01 and 02, in the report's order.
-pub const CODES: &[u16] = &[
-    20, 21, 22, 23, 24, 25, 26, 27, 28, 29, 30, 31, 32, 33, 34, 35, 36, 37, 38, 39, 40, 50, 51, 60, 61, 62,
-    70, 71, 72,
-];
-
-/// Those of supply: they are looked for where authority is given.
-pub const SUPPLY: &[u16] = &[70, 71, 72];
+/// The codes of document 01, in the report's order.
+pub const CODES: &[u16] =
+    &[20, 21, 22, 23, 24, 25, 26, 27, 28, 29, 30, 31, 32, 33, 34, 35, 36, 37, 38, 39, 40, 50, 51, 60, 61, 62];
 
 /// The refusals of documents 01 and 02.
-pub const REFUSALS: &[u16] = &[1, 2, 3, 4, 5, 6, 7, 8, 9, 10, 13, 15];
+pub const REFUSALS: &[u16] = &[1, 2, 3, 4, 5, 6, 7, 8, 9, 10, 13];
 
 /// The codes that speak of another place: those whose records can have a related place, and those whose
 /// other declaration is found in the tree (24, 26, 28, 29, 31).
@@ -200,12 +173,12 @@ fn words() -> &'static Words {
     READ.get_or_init(|| read(WORDS).unwrap_or_default())
 }
 
-/// The words for a code, 20 to 72.
+/// The words for a code, 20 to 62.
 pub fn code(number: u16) -> Option<&'static Entry> {
     codes().iter().find(|e| e.number == number)
 }
 
-/// The words for a refusal: 1 to 8 of an image, 9 of the list, 10 and 13 of the question why, 15 of authority.
+/// The words for a refusal: 1 to 8 of an image, 9 of the list, 10 and 13 of the question why.
 pub fn refusal(number: u16) -> Option<&'static Entry> {
     refusals().iter().find(|e| e.number == number)
 }
@@ -235,20 +208,9 @@ pub fn checks() -> &'static [Term] {
     &words().checks
 }
 
-/// What no check looks at, unless it is asked for.
+/// What no check looks at.
 pub fn gaps() -> &'static [Gap] {
     &words().gaps
-}
-
-/// The checks that run: that of supply only where it is asked for.
-pub fn checks_run(supply: bool) -> &'static [&'static str] {
-    let [three @ .., _] = &CHECKS;
-    if supply { &CHECKS } else { three }
-}
-
-/// What none of the checks looks at that run.
-pub fn open_gaps(supply: bool) -> impl Iterator<Item = &'static Gap> {
-    gaps().iter().filter(move |gap| !checks_run(supply).contains(&gap.closed.as_str()))
 }
 
 /// The exit statuses of the programs.

@@ -1,7 +1,7 @@
 //! The reader of the file of words. It is strict: what it does not know, what is missing and what
 //! stands twice is trouble, with the line where it stands.
 
-use crate::{BLANKS, CHECKS, CODES, Case, Entry, Gap, REFUSALS, SUPPLY, Term, USES, WITH_OTHERS, Words};
+use crate::{BLANKS, CHECKS, CODES, Case, Entry, Gap, REFUSALS, Term, USES, WITH_OTHERS, Words};
 use std::fmt;
 
 /// What is wrong with a file of words, and in which line.
@@ -142,41 +142,26 @@ fn term(section: &Section, before: &[Term]) -> Result<Term, Trouble> {
 }
 
 fn check(section: &Section, before: &[Term]) -> Result<Term, Trouble> {
-    is_check(section.line, section.of)?;
+    if !CHECKS.contains(&section.of) {
+        return trouble(section.line, format!("`{}` is no check", section.of));
+    }
     term(section, before)
-}
-
-fn is_check(line: usize, word: &str) -> Result<(), Trouble> {
-    if CHECKS.contains(&word) { Ok(()) } else { trouble(line, format!("`{word}` is no check")) }
 }
 
 fn gap(section: &Section, before: &[Gap]) -> Result<Gap, Trouble> {
     if before.iter().any(|g| g.word == section.of) {
         return trouble(section.line, format!("`{}` stands twice", section.of));
     }
-    only(section, &["closed", "means", "example"])?;
+    only(section, &["means", "example"])?;
     let [means, example] = [needed(section, "means")?, needed(section, "example")?];
-    Ok(Gap { word: section.of.to_string(), means, closed: closed(section)?, example })
-}
-
-/// The check that closes a gap, where one does.
-fn closed(section: &Section) -> Result<String, Trouble> {
-    let Some(field) = find(section, "closed")? else {
-        return Ok(String::new());
-    };
-    let check = value(field);
-    is_check(field.line, &check).map(|()| check)
+    Ok(Gap { word: section.of.to_string(), means, example })
 }
 
 /// The fields of a code, beside its cases. A refusal has no place, so it has none of those of places.
 const FIELDS: &[&str] = &[
     "title", "fault", "burned", "twice", "here", "there", "first", "more", "only", "clause", "clauses",
-    "means", "matters", "mend", "how", "before", "after", BEFORE, AFTER,
+    "means", "matters", "mend", "how", "before", "after",
 ];
-
-/// What is said of the entries of an example.
-const BEFORE: &str = "authority before";
-const AFTER: &str = "authority after";
 
 fn entry(section: &Section, numbers: &[u16], before: &[Entry]) -> Result<Entry, Trouble> {
     let Some(number) = section.of.parse().ok().filter(|n| numbers.contains(n)) else {
@@ -198,7 +183,6 @@ fn placed(section: &Section, number: u16) -> Result<Entry, Trouble> {
     let code = section.kind == "code";
     let others = code && WITH_OTHERS.contains(&number);
     let uses = code && number == USES;
-    let supply = code && SUPPLY.contains(&number);
     let where_true = |there: bool, name| if there { needed(section, name) } else { absent(section, name) };
     let example = code || find(section, "before")?.is_some();
     Ok(Entry {
@@ -221,17 +205,7 @@ fn placed(section: &Section, number: u16) -> Result<Entry, Trouble> {
         how: needed(section, "how")?,
         before: where_true(example, "before")?,
         after: where_true(example, "after")?,
-        authority_before: digits(section, where_true(supply, BEFORE)?)?,
-        authority_after: digits(section, where_true(supply, AFTER)?)?,
     })
-}
-
-/// Authority as the command takes it.
-fn digits(section: &Section, authority: String) -> Result<String, Trouble> {
-    match authority.chars().all(|c| matches!(c, '0' | '1')) {
-        true => Ok(authority),
-        false => trouble(section.line, format!("`{authority}` is no authority: 0 or 1 for each entry")),
-    }
 }
 
 /// A `mend` for each case of the code.

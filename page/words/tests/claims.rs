@@ -1,12 +1,13 @@
 //! What the file of words claims beside its examples is true: each claim that an editor could get
 //! wrong, asked of the proved checker.
 
-use crate::asked;
-use isonkaypu::{AuthorityError, check_image, check_image_with_authority, is_known_asset};
+use isonkaypu::{check_image, is_known_asset};
 
 /// The codes that a contract with these items has.
 fn codes(items: &str) -> Vec<u16> {
-    asked::codes(&format!("contract C {{ {items} }}"), "")
+    let text = format!("contract C {{ {items} }}");
+    let report = check_image(&example::image(&text)).unwrap_or_else(|refusal| panic!("{refusal}: {text}"));
+    report.offences().iter().map(|offence| offence.code).collect()
 }
 
 /// The codes of an entry with a lot `lot` of `M`, an address `to` and fields `s` and `t`, which it
@@ -299,11 +300,10 @@ fn what_stands_outside_of_the_entries() {
     let outside = [form::kind::STATE, form::kind::EVENT, form::kind::GENESIS, form::kind::INVARIANT];
     let more = "contract C { asset M; asset M; state { m: u8; } event E(); invariant deployer == 1; \
                 genesis { m.fly(); x = 1; emit F(); emit E(1); mint_asset(1); } entry e() { emit F(); } }";
-    let examples =
-        words::codes().iter().map(|entry| (entry.before.as_str(), entry.authority_before.as_str()));
+    let texts = words::codes().iter().map(|entry| entry.before.as_str()).chain([more]);
     let mut met = std::collections::BTreeSet::new();
-    for (text, authority) in examples.chain([(more, ""), (more, "0")]) {
-        let report = asked::report(text, authority);
+    for text in texts {
+        let report = check_image(&example::image(text)).expect("an image");
         let tree = report.tree().expect("a tree");
         for offence in report.offences() {
             let around = |item: &usize| (*item..tree.end(*item)).contains(&offence.place.node);
@@ -333,103 +333,4 @@ fn the_inner_call_takes_the_lot() {
     let [reason] = &lot.reasons[..] else { panic!("{:?}", lot.reasons) };
     let consumer = reason.consumer().expect("a call").span;
     assert_eq!(&text[consumer.start as usize..consumer.end as usize], "s.set(lot)");
-}
-
-/// The codes of supply that an entry has whose authority is said, with these clauses and statements, in a contract
-/// with one asset.
-fn supply(authority: &str, clauses: &str, body: &str) -> Vec<u16> {
-    let text =
-        format!("contract C {{ asset M; event E(a: u64); entry e(to: Q_Address) {clauses} {{ {body} }} }}");
-    asked::codes(&text, authority)
-}
-
-/// "New stock is made by a call of `mint` or `mint_asset`", "wherever it stands in the statement: inside another call,
-/// in a sum, in an `emit`".
-#[test]
-fn what_makes_new_stock() {
-    let claim = "The call counts wherever it stands in";
-    assert!([70, 71].iter().all(|code| words::code(*code).expect("a code").means.contains(claim)));
-    let makes = [
-        "mint_asset(to, 5);",
-        "send(to, mint(5));",
-        "guard 1 + mint(5) > 2;",
-        "emit E(mint(5));",
-        "emit E(checked(mint_asset(to, 5)));",
-        "let lot = mint(5); send(to, lot);",
-        "mint(5).split(1);",
-    ];
-    for body in makes {
-        for authority in ["0", "1"] {
-            assert_eq!(supply(authority, "", body), [71], "{body}");
-        }
-        assert_eq!(
-            [supply("1", "mints M", body), supply("0", "mints M", body)],
-            [vec![], vec![72]],
-            "{body}"
-        );
-        let genesis =
-            format!("contract C {{ asset M; event E(a: u64); genesis {{ {body} }} entry e() {{ }} }}");
-        assert_eq!(asked::codes(&genesis, "0"), [70], "{body}");
-    }
-    assert_eq!(supply("0", "", "mint(1); mint(mint(2));"), [71; 3]);
-    for body in ["", "send(to, 5);", "emit E(mint);"] {
-        assert_eq!(supply("0", "", body), [], "{body}");
-    }
-}
-
-/// "A call in a `limits`, `denies` or `after` clause is not looked at", nor one in an invariant or a first value.
-#[test]
-fn calls_outside_of_statements() {
-    for clause in ["limits mint(5) > 1", "denies mint(5) > 1", "after mint(5)"] {
-        assert_eq!(supply("0", clause, ""), [], "{clause}");
-    }
-    for item in ["state { s: u64 = mint(5); }", "state { s: u64; } invariant s.get(mint(5)) > 1;"] {
-        let codes = asked::codes(&format!("contract C {{ {item} entry e() {{ }} }}"), "0");
-        assert!(codes.iter().all(|code| !words::SUPPLY.contains(code)), "{item}: {codes:?}");
-    }
-}
-
-/// 72 is "asked of every entry with a `mints` clause, whether or not its statements make anything, and shown at the
-/// first such clause".
-#[test]
-fn a_mints_clause_needs_authority() {
-    let text = "contract C { asset M; asset N; entry e() burns M mints N mints M { } }";
-    let report = asked::report(text, "0");
-    let [offence] = report.offences() else { panic!("{report}") };
-    let place = offence.place.span;
-    assert_eq!((offence.code, &text[place.start as usize..place.end as usize]), (72, "mints N"));
-    assert_eq!(offence.name.as_deref(), Some("N"));
-    assert_eq!(asked::codes(text, "1"), []);
-}
-
-/// First entry by entry, then genesis, wherever that stands; each entry goes by its own digit.
-#[test]
-fn each_entry_has_its_own_digit() {
-    let text = "contract C { asset M; genesis { mint(1); } entry a() mints M { } entry b() { mint(2); } \
-                entry c() mints M { mint(3); } }";
-    assert_eq!(asked::codes(text, "000"), [72, 71, 72, 70]);
-    assert_eq!(asked::codes(text, "101"), [71, 70]);
-    assert_eq!(asked::codes(text, "010"), [72, 71, 72, 70]);
-    assert_eq!(asked::codes(text, ""), []);
-}
-
-/// 15: "There were more or fewer than the contract has entries". (That one is neither 0 nor 1 nobody can say in Rust.)
-#[test]
-fn authority_that_does_not_go_with_the_contract() {
-    let means = &words::refusal(15).expect("15").means;
-    assert!(means.contains("There were more or fewer than the contract has entries"), "{means}");
-    let image = example::image("contract C { asset M; entry a() mints M { } entry b() { mint(1); } }");
-    for given in [0, 1, 3] {
-        match check_image_with_authority(&image, &vec![true; given]) {
-            Err(AuthorityError::Count { given: said, entries, .. }) => {
-                assert_eq!((said, entries.len()), (given, 2))
-            }
-            other => panic!("{given}: {other:?}"),
-        }
-    }
-    let alone = example::image("contract C { }");
-    assert!(check_image_with_authority(&alone, &[]).is_ok_and(|report| report.accepted()));
-    // "1 to 8 are given before"
-    let no_image = check_image_with_authority(b"no image", &[true]);
-    assert!(matches!(no_image, Err(AuthorityError::NoImage(refusal)) if refusal.number() == 1));
 }

@@ -13,13 +13,11 @@ fn the_shipped_file_is_whole() {
     let words = read(WORDS).expect("the shipped file is read");
     assert_eq!(words.codes.iter().map(|e| e.number).collect::<Vec<_>>(), CODES);
     assert_eq!(words.refusals.iter().map(|e| e.number).collect::<Vec<_>>(), REFUSALS);
-    for word in
-        ["contract", "entry", "state", "lot", "genesis", "clause", "event", "invariant", "asset", "authority"]
-    {
+    for word in ["contract", "entry", "state", "lot", "genesis", "clause", "event", "invariant", "asset"] {
         assert!(words.glossary.iter().any(|t| t.word == word), "no `{word}` in the glossary");
     }
-    assert_eq!((words.lines.len(), words.statuses.len()), (18, 4));
-    assert_eq!([8, 13].map(|i| words.lines[i].word.as_str()), [words::OTHER_TEXT, words::USES_OF_A_LOT]);
+    assert_eq!((words.lines.len(), words.statuses.len()), (16, 4));
+    assert_eq!([7, 11].map(|i| words.lines[i].word.as_str()), [words::OTHER_TEXT, words::USES_OF_A_LOT]);
     assert_eq!(words.checks.iter().map(|t| t.word.as_str()).collect::<Vec<_>>(), words::CHECKS);
     for word in ["supply (conserve)", "signed authority", "amounts", "undeclared names", "undeclared types"] {
         assert!(words.gaps.iter().any(|g| g.word == word), "no gap `{word}`");
@@ -135,33 +133,4 @@ fn the_line_is_told() {
     let wrong = WORDS.replacen("[code 61]", "[code 63]", 1);
     let told = read(&wrong).map_err(|t| (t.line, t.to_string()));
     assert_eq!(told, Err((line, format!("line {line}: the documents have no `code 63`"))));
-}
-
-/// The examples of supply say what is said of their entries, and no others do.
-#[test]
-fn authority() {
-    for field in ["authority before", "authority after"] {
-        let line = WORDS.lines().find(|line| line.starts_with(&format!("{field}: "))).expect("a field of 70");
-        let line = format!("{line}\n");
-        assert_eq!(trouble(&line, ""), format!("`{field}:` is missing in [code 70]"));
-        assert_eq!(trouble(&line, &line.repeat(2)), format!("`{field}:` stands twice in this entry"));
-        let wrong = line.replace('1', "1 2");
-        assert_eq!(trouble(&line, &wrong), "`1 2` is no authority: 0 or 1 for each entry");
-        let here = "here: emitted here\n";
-        assert_eq!(trouble(here, &format!("{here}{line}")), format!("`{field}:` does not belong here"));
-    }
-    for entry in words::codes() {
-        let said = [&entry.authority_before, &entry.authority_after].map(|digits| !digits.is_empty());
-        assert_eq!(said, [words::SUPPLY.contains(&entry.number); 2], "{}", entry.number);
-    }
-}
-
-/// A gap is closed by a check that there is.
-#[test]
-fn closed_gaps() {
-    assert_eq!(trouble("closed: supply\n", "closed: suply\n"), "`suply` is no check");
-    assert_eq!(
-        trouble("closed: supply\n", "closed: supply\nclosed: lots\n"),
-        "`closed:` stands twice in this entry"
-    );
 }

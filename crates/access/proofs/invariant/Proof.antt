@@ -31,8 +31,8 @@ loop-holds : tie.Need-loop-init invariant-loop decreases-loop
 loop-holds c = let W = c.before.before.before.before.before.requires.0.view in let S = span_below W c.before.before.before.before.before.requires.1 (c.end.ensures W) in (S, sweep-starts S.order)
 
 -- no node of an Invariant stands in an entry
-no_entry : (c : tie.In-loop invariant-loop decreases-loop) (T : State c.before.before.before.before.before.before.before.args.nodes.now 0 c.before.before.before.before.before.before.before.args.state.now) → entry_of (tree_of T.view) c.before.loop.p ≡ 0
-no_entry c T =
+no-entry : (c : tie.In-loop invariant-loop decreases-loop) (T : State c.before.before.before.before.before.before.before.args.nodes.now 0 c.before.before.before.before.before.before.before.args.state.now) → entry_of (tree_of T.view) c.before.loop.p ≡ 0
+no-entry c T =
     let W = T.view in
     let l = c.before.loop.invariant.1.low in
     let e = c.before.before.end.ensures W in
@@ -40,7 +40,7 @@ no_entry c T =
     none-holds W c.before.before.before.before.before.before.before.requires.1 c.before.before.before.before.before.before.before.requires.3 8 refl refl (sym (c.before.before.before.before.kind.ensures W) ∙ c.before.before.before.if1.false) _ (omega arith) (omega arith)
 
 loop-again : tie.Need-loop-preserved invariant-loop decreases-loop
-loop-again c = let i = c.before.before.before.before.before.before.loop.invariant in (i.0, sweep-again i.1 (asked (λ T. T) 50 _ (no_entry c.before.before.before.before.before) _ c.before.before.before.before.rule50.ensures c.before.before.emit-if.ensures) c.before.before.before.before.before.loop-test.true)
+loop-again c = let i = c.before.before.before.before.before.before.loop.invariant in (i.0, sweep-again i.1 (asked (λ T. T) 50 _ (no-entry c.before.before.before.before.before) _ c.before.before.before.before.rule50.ensures c.before.before.emit-if.ensures) c.before.before.before.before.before.loop-test.true)
 
 same_length : tie.Need-same-length invariant-loop decreases-loop
 same_length c = sweep-long c.before.loop.invariant.1 c.before.before.before.before.before.before.before.requires.0

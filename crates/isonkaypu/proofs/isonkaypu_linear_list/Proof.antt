@@ -5,9 +5,7 @@ use Rattle.isonkaypu.proofs.isonkaypu_linear_list.Statement.{statement}
 use Rattle.isonkaypu.proofs.isonkaypu_linear_list.Tie as tie
 
 returns : tie.Need-returns
-returns c =
-    let t = tells_as c.before.before.before.before.linear-list.ensures.0.numbers c.tell.ensures in
-    (t, c.before.before.before.before.linear-list.ensures.1)
+returns c = let t = tells_as c.before.before.before.before.linear-list.ensures.0.numbers c.tell.ensures in (t, c.before.before.before.before.linear-list.ensures.1)
 
 pub isonkaypu-linear-list-spec : {M : Type 1} → statement M
 isonkaypu-linear-list-spec = tie.close (tie.spec (λ c κs. search rules) (λ c κs. search rules) (λ c. search rules) returns)

@@ -1,6 +1,5 @@
 -- `note` meets its contract: the numbers of each case.
 use borrow.Author.Rules.{rules}
-use mathlib.Core.Path.{sym, ap, ◌∙◌}
 use mathlib.Core.Path.{◌∙◌, sym, ap}
 use lib.Seq.{sets}
 use Rattle.passes.specs.declared.Verdict.{Verdict}
@@ -10,19 +9,13 @@ use Rattle.isonkaypu.proofs.note.Statement.{statement}
 use Rattle.isonkaypu.proofs.note.Tie as tie
 
 returns : tie.Need-returns
-returns c =
-    let a = c.before.before.before.before.before.before.before.before.args in
-    c.before.before.store.ensures ∙ ap (λ (v : Verdict). sets a.numbers.now a.at (row (answer_of v))) (sym c.before.before.before.before.before.v.given.1)
+returns c = c.store.ensures ∙ ap (λ (v : Verdict). sets c.before.before.before.before.before.args.numbers.now c.before.before.before.before.before.args.at (row (answer_of v))) (sym c.before.before.before.v.given.1)
 
 returns-2 : tie.Need-returns-2
-returns-2 c =
-    let a = c.before.before.before.before.before.before.before.args in
-    c.before.before.store2.ensures ∙ ap (λ (v : Verdict). sets a.numbers.now a.at (row (answer_of v))) (sym c.before.before.before.before.enum_told.given.1)
+returns-2 c = c.store2.ensures ∙ ap (λ (v : Verdict). sets c.before.before.before.before.args.numbers.now c.before.before.before.before.args.at (row (answer_of v))) (sym c.before.before.enum_told.given.1)
 
 returns-3 : tie.Need-returns-3
-returns-3 c =
-    let a = c.before.before.before.before.before.before.before.before.args in
-    c.before.before.store3.ensures ∙ ap (λ (v : Verdict). sets a.numbers.now a.at (row (answer_of v))) (sym c.before.before.before.before.before.v2.given.1)
+returns-3 c = c.store3.ensures ∙ ap (λ (v : Verdict). sets c.before.before.before.before.before.args.numbers.now c.before.before.before.before.before.args.at (row (answer_of v))) (sym c.before.before.before.v2.given.1)
 
 pub note-spec : {M : Type 1} → statement M
-note-spec = tie.close (tie.spec (λ c. search rules) (λ c κs. search rules) (λ c. search rules) (λ c κs. search rules) (λ c. search rules) (λ c. search rules) (λ c. search rules) (λ c. search rules) (λ c. search rules) (λ c κs. search rules) (λ c. search rules) returns (λ c. search rules) returns-2 (λ c. search rules) returns-3)
+note-spec = tie.close (tie.spec (λ c. search rules) (λ c κs. search rules) (λ c. search rules) (λ c κs. search rules) (λ c. search rules) (λ c. search rules) (λ c. search rules) (λ c. search rules) (λ c. search rules) (λ c κs. search rules) returns returns-2 returns-3)

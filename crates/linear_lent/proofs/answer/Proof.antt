@@ -9,7 +9,7 @@ returns : tie.Need-returns
 returns c = simp (eq-eqb _ 0 c.if1.true)
 
 returns-2 : tie.Need-returns-2
-returns-2 c = rw c.wide.ensures.0 (sym (simp (ne_eqb _ 0 c.before.before.if1.false, lt-ltb _ 16 c.before.if2.true)))
+returns-2 c = rw c.wide.ensures.0 (sym (simp (ne_eqb _ 0 c.before.before.if1.false, lt-ltb _ 9 c.before.if2.true)))
 
 refused-at-requires : tie.Need-refused-at-requires
 refused-at-requires c κs = (c.if2.false, c.before.before.before.before.requires c.if2.false)

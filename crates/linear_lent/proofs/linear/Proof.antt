@@ -181,7 +181,7 @@ module _ {M : Type 1} {𝓤 : Ura M} (𝓛 : Logic 𝓤) (mem : Memory → SProp
   abbrev to-answer : State → (Answer 𝓛 mem run).Ghost
   to-answer c = (((κ, tt), (q, tt), tt, (image, (c, tt)), (s₀ ∷ [], (mach c ∷ [], tt))), tt)
 
-  goes-3 : (c : State) → Is P.the_row c (mach c ∷ []) → (16 ≤ c.found.number → refusal image.now ≡ 0) → ent 𝓤 (sep 𝓤 (A.lft κ q) (sem 𝓛 Shr)) ((Answer 𝓛 mem run).pre (to-answer c))
+  goes-3 : (c : State) → Is P.the_row c (mach c ∷ []) → (9 ≤ c.found.number → refusal image.now ≡ 0) → ent 𝓤 (sep 𝓤 (A.lft κ q) (sem 𝓛 Shr)) ((Answer 𝓛 mem run).pre (to-answer c))
   goes-3 c is h =
       qed 𝓛 (‵ (flft κ q) ∷ ‵ Shr ∷ []) ∵ says ! h $ nothing ! $ move ! (1 ∷ 0 ∷ []) $ join ! $ frame ! $
       nothing ! $ owned ! P.the_row (Is P.the_row) (LL.makes P.the_type P'.the_plain 𝓛) c (mach c ∷ []) is $ fjoin ! $ move ! (1 ∷ 0 ∷ []) $ fjoin ! $ done !

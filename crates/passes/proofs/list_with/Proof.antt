@@ -12,30 +12,16 @@ use Rattle.passes.proofs.list_with.Statement.{statement}
 use Rattle.passes.proofs.list_with.Tie as tie
 
 list-requires-3 : tie.Need-list-requires-3
-list-requires-3 c κs = by-words c.before.before.before.before.before.before.requires
-
-list-requires-4 : tie.Need-list-requires-4
-list-requires-4 c κs = by-words c.before.before.before.before.before.before.requires
+list-requires-3 c κs = by-words c.before.before.before.before.before.requires
 
 returns : tie.Need-returns
-returns c =
-    let a = c.before.before.before.before.before.before.before.before.before.args in
-    listed_by (λ (T : Looked a.nodes.now a.words a.state.now). tree_of T.view) a.authority.now (2 ^ 38) c.before.before.before.before.enum_told.given.1 (omega arith) c.before.before.list.ensures
+returns c = listed_by (λ (T : Looked c.before.before.before.before.before.before.before.before.args.nodes.now c.before.before.before.before.before.before.before.before.args.words c.before.before.before.before.before.before.before.before.args.state.now). tree_of T.view) (2 ^ 38) c.before.before.before.before.enum_told.given.1 (omega arith) c.before.before.list.ensures
 
 returns-2 : tie.Need-returns-2
-returns-2 c =
-    let a = c.before.before.before.before.before.before.before.before.before.args in
-    listed_by (λ (T : Looked a.nodes.now a.words a.state.now). tree_of T.view) a.authority.now (2 * 2048 * 2048) c.before.before.before.before.enum-told2.given.1 (omega arith) c.before.before.list2.ensures
+returns-2 c = listed_by (λ (T : Looked c.before.before.before.before.before.before.before.before.args.nodes.now c.before.before.before.before.before.before.before.before.args.words c.before.before.before.before.before.before.before.before.args.state.now). tree_of T.view) (2 * 2048 * 2048) c.before.before.before.before.enum-told2.given.1 (omega arith) c.before.before.list2.ensures
 
 returns-3 : tie.Need-returns-3
-returns-3 c =
-    let a = c.before.before.before.before.before.before.before.before.before.args in
-    listed_by (λ (T : Looked a.nodes.now a.words a.state.now). tree_of T.view) a.authority.now (3070 * 2048) c.before.before.before.before.enum-told3.given.1 (omega arith) (added-by (λ T. by-words T) (λ T. refl) c.before.before.list3.ensures)
-
-returns-4 : tie.Need-returns-4
-returns-4 c =
-    let a = c.before.before.before.before.before.before.before.before.before.args in
-    listed_by (λ (T : Looked a.nodes.now a.words a.state.now). tree_of T.view) a.authority.now (2 * 2048 * 2048) c.before.before.before.before.enum-told4.given.1 (omega arith) (added-by (λ T. by-words T) (λ T. refl) c.before.before.list4.ensures)
+returns-3 c = listed_by (λ (T : Looked c.before.before.before.before.before.before.before.before.args.nodes.now c.before.before.before.before.before.before.before.before.args.words c.before.before.before.before.before.before.before.before.args.state.now). tree_of T.view) (3070 * 2048) c.before.before.before.before.enum-told3.given.1 (omega arith) (added-by (λ T. by-words T) (λ T. refl) c.before.before.list3.ensures)
 
 pub list-with-spec : {M : Type 1} → statement M
-list-with-spec = tie.close (tie.spec (λ c. search rules) (λ c κs. search rules) (λ c. search rules) (λ c κs. search rules) (λ c. search rules) list-requires-3 (λ c. search rules) list-requires-4 (λ c. search rules) returns (λ c. search rules) returns-2 (λ c. search rules) returns-3 (λ c. search rules) returns-4)
+list-with-spec = tie.close (tie.spec (λ c. search rules) (λ c κs. search rules) (λ c. search rules) (λ c κs. search rules) (λ c. search rules) list-requires-3 (λ c. search rules) returns (λ c. search rules) returns-2 (λ c. search rules) returns-3)

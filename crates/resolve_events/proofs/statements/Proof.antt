@@ -3,6 +3,7 @@ use borrow.Author.Rules.{rules}
 use native.Mathlib.Omega.{arith}
 use Prim.Native.Nat.{◌-◌}
 use mathlib.Core.Path.{refl}
+use mathlib.Core.Path.{refl}
 use Rattle.rules.specs.Sweep.{has}
 use Rattle.rules.specs.Tree.{emit}
 use Rattle.records.proofs.Laws.{held_all}

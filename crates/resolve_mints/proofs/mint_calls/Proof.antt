@@ -18,7 +18,7 @@ use Rattle.resolve_mints.proofs.mint_calls.Tie as tie
 
 abbrev invariant-loop : tie.invariant-loop
 invariant-loop nodes mint out₀ count end total₀ children₀ out total children =
-    Over 0 end children × Walk (λ (T : Minting nodes mint). T.view) bodied (λ T e. calls (tree_of T.view) e (rule22 (tree_of T.view))) 1 end 2048 out₀ count out total children.at
+    Over 0 end children × Walk (λ (T : Minting nodes 0 mint). T.view) bodied (λ T e. calls (tree_of T.view) e (rule22 (tree_of T.view))) 1 end 2048 out₀ count out total children.at
 
 abbrev decreases-loop : tie.decreases-loop
 decreases-loop nodes mint out₀ count end total₀ children₀ out total children = end - children.at

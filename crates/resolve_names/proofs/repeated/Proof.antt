@@ -11,7 +11,7 @@ use Rattle.nodes.proofs.Shapes.{one_in}
 use Rattle.nodes.proofs.Walks.{declarations-on, declaration-moves, none_of}
 use Rattle.nodes.proofs.Steps.{Walk, walk-on, below-starts, below-done}
 use Rattle.resolve_names.specs.Seen.{met_rule}
-use Rattle.resolve_names.proofs.Lent.{among-all, no_entry}
+use Rattle.resolve_names.proofs.Lent.{among-all, no-entry}
 use Rattle.resolve_names.proofs.repeated.Statement.{statement}
 use Rattle.resolve_names.proofs.repeated.Tie as tie
 
@@ -42,7 +42,7 @@ loop-again c =
     let k = d.before.before.before.before.before.before.before.args.code in
     walk-on i
     (asked-at-or (λ W. among-all W d.before.before.before.note-names.ensures i.sweep.low (inside d W)) k (d.before.loop.p + 1)
-    (λ W. no_entry _ k _ W (here d) i.sweep.low d.before.before.before.before.before.before.before.requires.0.0 d.before.before.before.before.before.before.before.requires.4)
+    (λ W. no-entry _ k _ W (here d) i.sweep.low d.before.before.before.before.before.before.before.requires.0.0 d.before.before.before.before.before.before.before.requires.4)
     c.before.before.before.before.before.met.result (c.before.before.before.before.before.met.ensures k) c.before.before.before.emit-hit.ensures)
     (moved c)
     (λ W. none_of _ declarations (one_in _ declarations d.before.before.before.before.before.before.before.requires.0.1) (declarations-on W (here d) i.sweep.low (c.next-declaration.ensures W)))

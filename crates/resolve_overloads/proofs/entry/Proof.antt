@@ -16,8 +16,8 @@ use Rattle.resolve_overloads.proofs.Sought.{at_none, at_one, at_other, is-new, n
 use Rattle.resolve_overloads.proofs.entry.Statement.{statement}
 use Rattle.resolve_overloads.proofs.entry.Tie as tie
 
-no_entry : (c : tie.Then1) (W : View c.before.before.before.before.args.nodes.now 0) → (tree_of W).kind c.before.before.before.before.args.item ≡ 9 → ⊥
-no_entry c W e = c.if1.true (c.before.kind.ensures W ∙ e)
+no-entry : (c : tie.Then1) (W : View c.before.before.before.before.args.nodes.now 0) → (tree_of W).kind c.before.before.before.before.args.item ≡ 9 → ⊥
+no-entry c W e = c.if1.true (c.before.kind.ensures W ∙ e)
 
 is_entry : (c : tie.Else1) (W : View c.before.before.before.before.args.nodes.now 0) → (tree_of W).kind c.before.before.before.before.args.item ≡ 9
 is_entry c W = sym (c.before.kind.ensures W) ∙ c.if1.false
@@ -62,5 +62,5 @@ pub entry_spec : {M : Type 1} → statement M
 entry_spec =
     tie.close
     (tie.spec
-    (λ c κs. search rules) (λ c. (added-nothing (λ C. at_other (tree_of C.view) _ (no_entry c C.view)), λ C. chains-skip C.view.image C.chains (other-not-new C.view.image _ (no_entry c C.view)))) (λ c κs. let W = c.before.before.before.before.requires.0.view in record { view = W; here = c.before.before.before.before.requires.1; low = c.before.before.before.before.requires.2; is = is_entry c W })
+    (λ c κs. search rules) (λ c. (added-nothing (λ C. at_other (tree_of C.view) _ (no-entry c C.view)), λ C. chains-skip C.view.image C.chains (other-not-new C.view.image _ (no-entry c C.view)))) (λ c κs. let W = c.before.before.before.before.requires.0.view in record { view = W; here = c.before.before.before.before.requires.1; low = c.before.before.before.before.requires.2; is = is_entry c W })
     (λ c κs. sought c.before.before.before c.before.before.before.before.before.before.before.before.requires.0) (λ c. search rules) (λ c. search rules) (λ c. search rules) (λ c. search rules) (λ c. search rules) (λ c κs. search rules) (λ c. search rules) returns-2 (λ c κs. search rules) returns-3)

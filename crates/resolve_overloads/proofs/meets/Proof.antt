@@ -11,8 +11,8 @@ use Rattle.resolve_overloads.proofs.Sought.{at_none, at_other, fresh-name, seen-
 use Rattle.resolve_overloads.proofs.meets.Statement.{statement}
 use Rattle.resolve_overloads.proofs.meets.Tie as tie
 
-no_entry : (c : tie.Then1) (W : View c.before.before.before.args.nodes.now 0) → (tree_of W).kind c.before.before.before.args.item ≡ 9 → ⊥
-no_entry c W e = c.if1.true (c.before.kind.ensures W ∙ e)
+no-entry : (c : tie.Then1) (W : View c.before.before.before.args.nodes.now 0) → (tree_of W).kind c.before.before.before.args.item ≡ 9 → ⊥
+no-entry c W e = c.if1.true (c.before.kind.ensures W ∙ e)
 
 is_entry : (c : tie.Else1) (W : View c.before.before.before.args.nodes.now 0) → (tree_of W).kind c.before.before.before.args.item ≡ 9
 is_entry c W = sym (c.before.kind.ensures W) ∙ c.if1.false
@@ -22,7 +22,7 @@ unfolding has
 worded c = let W = c.before.before.before.requires.0.view in named-at W c.before.before.before.requires.2 (omega arith, refl) (is_entry c W)
 
 returns : tie.Need-returns
-returns c = λ S e. (at_other (tree_of S.view) _ (no_entry c S.view), seen_other S.view _ (no_entry c S.view) S.marks)
+returns c = λ S e. (at_other (tree_of S.view) _ (no-entry c S.view), seen_other S.view _ (no-entry c S.view) S.marks)
 
 is-marked-requires : tie.Need-is-marked-requires
 is-marked-requires c κs = worded c.before

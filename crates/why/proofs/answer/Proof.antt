@@ -2,7 +2,7 @@
 use borrow.Author.Rules.{rules}
 use native.Mathlib.Omega.{arith}
 use Rattle.nodes.proofs.Heads.{root-of, view_of}
-use Rattle.why.proofs.Found.{no_entry, answer-no-lot}
+use Rattle.why.proofs.Found.{no-entry, answer-no-lot}
 use Rattle.why.proofs.answer.Statement.{statement}
 use Rattle.why.proofs.answer.Tie as tie
 
@@ -10,7 +10,7 @@ entry-at-requires : tie.Need-entry-at-requires
 entry-at-requires c κs = let S = c.area.ensures in (view_of S, root-of S)
 
 returns : tie.Need-returns
-returns c = let W = view_of c.before.before.area.ensures in answer-no-lot _ c.before.before.before.before.before.args.out.now c.before.before.before.before.before.args.place c.before.before.before.before.before.requires.admitted (no_entry W (c.before.entry_at.ensures W) c.if1.true)
+returns c = let W = view_of c.before.before.area.ensures in answer-no-lot _ c.before.before.before.before.before.args.out.now c.before.before.before.before.before.args.place c.before.before.before.before.before.requires.admitted (no-entry W (c.before.entry_at.ensures W) c.if1.true)
 
 answer-entry-requires : tie.Need-answer-entry-requires
 answer-entry-requires c κs =

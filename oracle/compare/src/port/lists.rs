@@ -7,21 +7,23 @@ use super::buffers::Expected;
 use crate::mismatch::Mismatch;
 use reference::{Pass, RECORD_WORDS, Record};
 
+type List = fn(&[u8], &mut [u16]) -> (usize, usize);
+
 /// A pass's own part of the list.
-pub fn part(asked: &Asked, pass: Pass, list: impl Fn(&mut [u16]) -> (usize, usize)) -> Result<(), Mismatch> {
+pub fn part(asked: &Asked, pass: Pass, list: List) -> Result<(), Mismatch> {
     let records = asked.judged.as_ref().map_or(&[][..], |judged| judged.part(pass));
     let words: Vec<u16> = records.iter().flat_map(Record::words).collect();
     for length in lengths(records.len()) {
         let what = || format!("{}'s part of the list in {length} words", pass.word());
         let written = &words[..words.len().min(length)];
         let expected = Expected { result: asked.refusal(), count: records.len(), written };
-        expected.agrees(what, length, &list)?;
+        expected.agrees(what, length, |buffer| list(asked.image, buffer))?;
     }
     Ok(())
 }
 
 /// The full list.
-pub fn full(asked: &Asked, list: impl Fn(&mut [u16]) -> (usize, usize)) -> Result<(), Mismatch> {
+pub fn full(asked: &Asked) -> Result<(), Mismatch> {
     let judged = asked.judged.as_ref().map_err(|refusal| *refusal);
     for length in lengths(judged.map_or(0, |judged| judged.list().len())) {
         let what = || format!("the full list in {length} words");
@@ -30,7 +32,7 @@ pub fn full(asked: &Asked, list: impl Fn(&mut [u16]) -> (usize, usize)) -> Resul
             Ok(count) => Expected { result: 0, count, written: &room[..length.min(RECORD_WORDS * count)] },
             Err(refusal) => Expected::refused(usize::from(refusal)),
         };
-        expected.agrees(what, length, &list)?;
+        expected.agrees(what, length, |buffer| isonkaypu_sys::list(asked.image, buffer))?;
     }
     Ok(())
 }

@@ -4,7 +4,6 @@
 
 use super::Asked;
 use super::buffers::Expected;
-use crate::images::rng_of;
 use crate::mismatch::Mismatch;
 use crate::why::lengths;
 use generate::Rng;
@@ -17,7 +16,7 @@ const SMALL: usize = 24;
 const EVERY: usize = 16;
 
 pub fn reasons(asked: &Asked) -> Result<(), Mismatch> {
-    let mut rng = rng_of(asked.image);
+    let mut rng = Rng::new(asked.image.iter().fold(0, |sum, byte| sum * 31 % 65_521 + u64::from(*byte)));
     let Ok(judged) = &asked.judged else {
         let places = [0, rng.below(2_048), rng.bits() as usize, usize::MAX];
         return places.into_iter().try_for_each(|place| agree(asked, Err(asked.refused()), place));

@@ -3,8 +3,7 @@
 //! that docs/RULES.md settles and that no verdict shows, since a verdict ends at the first offence
 //! (`settled`); M, more than one offence of a rule in one item (`several`); F, offences far down a
 //! large image with large span words (`far`); E, which entry a place is in, of request E8 (`entries`).
-//! Contracts with what request E3 says of places in them stand apart (`reasons`), and so do those with the
-//! bytes that request E6 has its callers lend (`supply`).
+//! Contracts with what request E3 says of places in them stand apart (`reasons`).
 //!
 //! A place is named by a mark on its node. A list is written as `25ba 61x`: the code, the mark of
 //! the place, and the mark of the related node where there is one. The entry of a record is the one
@@ -16,12 +15,10 @@ mod page;
 mod reasons;
 mod settled;
 mod several;
-mod supply;
 mod tempting;
 
 pub use page::p2;
 pub use reasons::{Explained, most_reasons, reasons};
-pub use supply::{Refused, Supplied, refused, supplied};
 
 use crate::build::*;
 use crate::{Node, name, node};

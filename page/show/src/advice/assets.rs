@@ -18,7 +18,11 @@ impl Asked<'_> {
             let way = assets.iter().skip(1).map(|asset| remove(*asset)).collect();
             return Advice::new(Case::Twice, vec![way]).with("asset", first);
         }
-        Advice::new(Case::Plain, self.call_out())
+        // the call out, where it is a statement and nothing is lost with it
+        let statement = facts.statement_of(self.node()).filter(|s| s + 1 == self.node());
+        let free =
+            statement.filter(|s| facts.uses_in(*s..facts.tree.end(*s)).iter().all(|u| !self.is_a_lot(*u)));
+        Advice::new(Case::Plain, free.map(|s| vec![remove(s)]).into_iter().collect())
     }
 
     /// Whether an Ident names a lot of the entry.
@@ -33,9 +37,8 @@ impl Asked<'_> {
         let clause = facts.above(self.node()).unwrap_or(0);
         let declared = || facts.items(kind::ASSET).map(|asset| facts.text(asset + 1));
         let out = || vec![self.without_the_clause(clause)];
-        let needed = code == 38 && self.needs_mints();
         if code != 37 && self.name() == "QTOV" {
-            return if needed { self.other_asset(clause) } else { Advice::new(Case::Qtov, out()) };
+            return Advice::new(Case::Qtov, out());
         }
         let known = if code == 37 { facts.known_assets() } else { declared().collect() };
         let near =
@@ -44,7 +47,6 @@ impl Asked<'_> {
             return Advice::new(Case::Near, vec![vec![replace(self.node(), &near)]]).with("near", near);
         }
         match declared().next().filter(|_| self.calls_mint_asset()) {
-            Some(_) if needed => self.other_asset(clause),
             Some(asset) => {
                 let named = (code != 39).then(|| vec![replace(self.node(), &asset)]);
                 let ways = named.into_iter().chain(out()).collect();
@@ -57,7 +59,8 @@ impl Asked<'_> {
     fn calls_mint_asset(&self) -> bool {
         let tree = self.facts.tree;
         let bodies = self.facts.items(kind::ENTRY).chain(self.facts.items(kind::GENESIS));
-        bodies.flat_map(|body| body..tree.end(body)).any(|node| self.facts.is_call_of(node, &["mint_asset"]))
+        let mut calls = bodies.flat_map(|b| b..tree.end(b)).filter(|node| tree.kind(*node) == kind::CALL);
+        calls.any(|call| tree.kind(call + 1) == kind::IDENT && self.facts.is(call + 1, "mint_asset"))
     }
 
     /// Whether `burns` with another asset leaves every lot of the entry with as many uses.

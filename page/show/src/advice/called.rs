@@ -2,7 +2,7 @@
 
 use super::{Advice, Asked};
 use crate::edit::{Edit, Way, replace};
-use crate::facts::{Facts, MINTING};
+use crate::facts::Facts;
 use crate::near::nearest;
 use form::kind;
 use words::Case;
@@ -47,15 +47,14 @@ impl Asked<'_> {
         }
     }
 
-    /// Whether calling this instead changes nothing for the lots of the entry, and is no 22 and no fault of supply.
+    /// Whether calling this instead changes nothing for the lots of the entry, and is no 22.
     fn leaves_lots_alone(&self, near: &str) -> bool {
         let (facts, call) = (self.facts, self.node());
         let used = facts.tree.children(call).skip(1).map(|argument| facts.peeled(argument));
         let loses = Facts::is_reading(near) && used.into_iter().any(|ident| self.is_a_lot(ident));
         let makes = ["split", "mint"].contains(&near) && !self.new_lot_is_used_once();
         let one_too_many = near == "mint_asset" && facts.items(kind::ASSET).count() > 1;
-        let from_nowhere = MINTING.contains(&near) && self.may_not_mint();
-        !loses && !makes && !one_too_many && !from_nowhere
+        !loses && !makes && !one_too_many
     }
 
     /// Where the call is the value of a `let`: whether a lot of that name would be used exactly once.

@@ -1,4 +1,4 @@
-//! The top of the page: the answer in words, the checks, and what was not checked.
+//! The top of the page: the answer in words, the three checks, and what was not checked.
 
 use super::excerpt::excerpt;
 use super::prose;
@@ -8,7 +8,7 @@ use crate::fault::counted;
 use crate::notice::{self, OtherText};
 use crate::region::Region;
 use crate::unread::Unread;
-use crate::{Outcome, authority, escape, list_refused, looks};
+use crate::{Outcome, escape, list_refused, looks};
 use isonkaypu::{Doubt, Pass, Report, Span};
 
 /// How many faults the banner names one by one.
@@ -44,11 +44,9 @@ fn answer(view: &View) -> Answer {
             class: "accepted",
             title,
             drawing: "M5 13l5 5L20 7",
-            html: format!(
-                "<p>No fault was found by the rules that are <a href=\"#checked\">checked</a> here.{}</p>\
-                 <p>It can still be wrong in what is <a href=\"#not-checked\">not checked</a>.</p>",
-                with_supply(report)
-            ),
+            html: "<p>No fault was found by the rules that are <a href=\"#checked\">checked</a> here.</p>\
+                   <p>It can still be wrong in what is <a href=\"#not-checked\">not checked</a>.</p>"
+                .to_string(),
         },
         Outcome::Checked(report) => Answer {
             class: "refused",
@@ -57,10 +55,9 @@ fn answer(view: &View) -> Answer {
             html: format!(
                 "<p>This contract is not let through as it stands. {} Mend them all, then check the contract again.\
                  </p>{}<p>Below the faults: what is <a href=\"#checked\">checked</a>, and what is \
-                 <a href=\"#not-checked\">not</a>.{}</p>",
+                 <a href=\"#not-checked\">not</a>.</p>",
                 shown(report),
-                doubts(report) + &summary(view),
-                with_supply(report)
+                doubts(report) + &summary(view)
             ),
         },
         _ => unread(view, title),
@@ -92,17 +89,6 @@ fn unread(view: &View, title: String) -> Answer {
     let why = Unread::of(view.subject).map_or(String::new(), |unread| why(view, &unread));
     let html = format!("<p>{what}</p>{why}");
     Answer { class: "unread", title, drawing: "M12 5v9M12 18v1", html }
-}
-
-/// Where supply was checked: that this went by somebody's word.
-fn with_supply(report: &Report) -> &'static str {
-    match report.authority() {
-        Some(_) => {
-            " Supply was checked too; who has <a href=\"#authority\">signed authority</a> was taken from \
-             whoever asked."
-        }
-        None => "",
-    }
 }
 
 fn shown(report: &Report) -> &'static str {
@@ -194,11 +180,9 @@ fn checked(view: &View) -> String {
         Some(_) => ("box alone", "Checked, of the image alone"),
         None => ("box", "Checked"),
     };
-    let said = authority::sentence(view.subject);
-    let said = said.map_or(String::new(), |says| format!("<p id=\"authority\">{}</p>", prose::line(&says)));
     format!(
         "<section class=\"{class}\" aria-labelledby=\"checked\"><h2 id=\"checked\">{title}</h2><ul class=\"checks\">\
-         {rows}</ul>{said}</section>\n"
+         {rows}</ul></section>\n"
     )
 }
 
@@ -225,7 +209,7 @@ fn not_checked(view: &View) -> String {
     };
     let rows: String = about::not_checked(view.subject).iter().map(row).collect();
     let why = match view.subject.report() {
-        Some(_) => "No rule looks at these here, and an accepted contract can be wrong in them:",
+        Some(_) => "No rule looks at these, and an accepted contract can be wrong in them:",
         None => "Nothing was checked, so this report says nothing about:",
     };
     format!(

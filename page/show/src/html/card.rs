@@ -123,15 +123,14 @@ fn place(view: &View, id: &str, mark: &Mark, region: &Option<Region>, class: &st
 }
 
 fn example(words: &Entry) -> String {
-    let part = |(title, text): &(String, &str)| {
-        format!("<p>{}:</p><pre>{}</pre>", prose::line(title), escape::html(text))
-    };
-    let parts: String = words.examples(["Before", "Mended"]).iter().map(part).collect();
-    if parts.is_empty() {
-        return parts;
+    if words.before.is_empty() && words.after.is_empty() {
+        return String::new();
     }
+    let part = |title: &str, text: &str| format!("<p>{title}:</p><pre>{}</pre>", escape::html(text));
     format!(
-        "<details class=\"example\"><summary>An example for code {}</summary>{parts}</details>\n",
-        words.number
+        "<details class=\"example\"><summary>An example for code {}</summary>{}{}</details>\n",
+        words.number,
+        part("Before", &words.before),
+        part("Mended", &words.after)
     )
 }

@@ -89,7 +89,8 @@ fn markdown(entry: &Entry) -> String {
 
 /// The example before and after, where there is one.
 fn example(entry: &Entry, part: impl Fn(&str, &str) -> String) -> String {
-    entry.examples(["Before", "After"]).iter().map(|(title, text)| part(title, text)).collect()
+    let parts = [("Before", &entry.before), ("After", &entry.after)];
+    parts.iter().filter(|(_, text)| !text.is_empty()).map(|(title, text)| part(title, text)).collect()
 }
 
 /// A message. Help is not one: viewers put nothing into it and show it as it stands.

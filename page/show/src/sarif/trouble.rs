@@ -1,22 +1,19 @@
-//! What a SARIF log says of the run itself: what kept the checks from running well, whose word they took, and what
-//! they do not look at.
+//! What a SARIF log says of the run itself: what kept the checks from running well, and what they do
+//! not look at.
 
 use super::rules::{DOUBT, DOUBT_ID, OTHER_TEXT, OTHER_TEXT_ID, described, message, refusal_id, refusals};
 use crate::json::value::{Value, list, object};
 use crate::unread::Unread;
-use crate::{Outcome, Subject, about, authority, looks, notice};
+use crate::{Outcome, Subject, about, looks, notice};
 use isonkaypu::{Doubt, Span};
 
 /// The notification that says what was not checked.
 const NOT_CHECKED_ID: &str = "not-checked";
 
-/// The notification that says which entries were said to have signed authority.
-const AUTHORITY_ID: &str = "authority";
-
 /// The notification that says that a text was not shown, and why.
 const NOT_SHOWN_ID: &str = "text-not-shown";
 
-/// What a notification can be about: a refusal, a doubt, a text, authority, or what was not checked.
+/// What a notification can be about: a refusal, a doubt, a text, or what was not checked.
 fn descriptors() -> Vec<(String, &'static str)> {
     let refused = refusals().map(|entry| (refusal_id(entry.number), entry.title.as_str()));
     let others = [
@@ -24,7 +21,6 @@ fn descriptors() -> Vec<(String, &'static str)> {
         (OTHER_TEXT_ID, OTHER_TEXT),
         (NOT_SHOWN_ID, "the text was not shown, nor compared with the image"),
         (NOT_CHECKED_ID, "what was not checked"),
-        (AUTHORITY_ID, "signed authority, as whoever asked said"),
     ];
     refused.chain(others.map(|(id, text)| (id.to_string(), text))).collect()
 }
@@ -45,9 +41,7 @@ pub struct Trouble {
 pub fn notifications(subject: &Subject) -> Vec<Value> {
     let troubles = troubles(subject).into_iter().map(|one| notification(&one.id, "error", &one.says));
     let not_shown = notice::not_shown(subject).map(|says| notification(NOT_SHOWN_ID, "warning", &says));
-    let said = authority::sentence(subject);
-    let said = said.map(|says| notification(AUTHORITY_ID, "note", &format!("{}: {says}", subject.label())));
-    troubles.chain(not_shown).chain([not_checked(subject)]).chain(said).collect()
+    troubles.chain(not_shown).chain([not_checked(subject)]).collect()
 }
 
 /// Why the image could not be read, why the answers are in doubt, that the text is another one.

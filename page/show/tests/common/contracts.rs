@@ -29,36 +29,6 @@ contract WardStock {
 }
 ";
 
-/// Stock that nobody signed for, in every way: with `SIGNED` on its entries it has a 71, a 72 and a 70.
-pub const UNSIGNED_SUPPLY: &str = "\
-contract WardStock {
-    asset Morphine;
-    state { stock: Q_Asset<Morphine>; pharmacist: Q_Address; }
-    genesis {
-        pharmacist = deployer;
-        stock = mint(500);
-    }
-    entry make(amount: u64 signed_by pharmacist)
-        writes stock
-        mints Morphine
-    {
-        stock.merge(mint(amount));
-    }
-    entry take(to: Q_Address, amount: u64) {
-        mint_asset(to, amount);
-    }
-    entry follow(next: Q_Address)
-        writes pharmacist
-        mints Morphine
-    {
-        pharmacist = next;
-    }
-}
-";
-
-/// What is said of the three entries of `UNSIGNED_SUPPLY`.
-pub const SIGNED: &str = "100";
-
 /// What a template's capital letters stand for, behind a `$`; `~` is a slip of the pen for the same.
 const NAMES: &[(char, &[&str])] = &[
     ('F', &["limit", "issued", "day_total"]),
@@ -167,9 +137,6 @@ pub const TEMPLATES: &[Template] = &[
     (38, Single, "asset $A; entry $E($T: Q_Address) mints $U { % mint_asset($T, 5); }"),
     (39, Plain, "entry $E($L: Q_Asset<$A>) burns $A { % }"),
     (39, Plain, "asset $A; entry $E($L: Q_Asset<$A>, $T: Q_Address) burns ~A { % send($T, $L); }"),
-    (38, Minted, "asset $A; entry $E($T: Q_Address) mints QTOV { % mint_asset($T, 5); % }"),
-    (38, Minted, "asset $A; asset $B; entry $E($T: Q_Address) mints QTOV { % send($T, mint(5)); }"),
-    (38, Minted, "asset $A; entry $E($T: Q_Address) mints $U { % mint_asset($T, 5); mint_asset($T, 6); }"),
     (39, Qtov, "asset $A; entry $E() burns QTOV { % }"),
     (39, Qtov, "entry $E($L: Q_Asset<QTOV>, $M: Q_Asset<QTOV>, $T: Q_Address) burns QTOV { % }"),
     (39, Qtov, "state { $H: Q_Address; } entry $E($L: Q_Asset<QTOV>) burns QTOV { % }"),
@@ -219,31 +186,7 @@ pub const TEMPLATES: &[Template] = &[
     (62, First, "asset $A; entry $E($L: Q_Asset<$A>, $L: Q_Asset<$A>, $T: Q_Address) burns $A { % send($T, $L); }"),
     (62, First, "asset $A; asset $B; entry $E($L: Q_Asset<$A>, $L: Q_Asset<$B>, $T: Q_Address) burns $A burns $B { % send($T, $L); }"),
     (62, First, "asset $A; entry $E($L: Q_Asset<$A>, $L: Q_Asset<$A>, $T: Q_Address) { % send($T, $L); send($T, $L); }"),
-    (70, Plain, "asset $A; genesis { % mint_asset(deployer, 5); }"),
-    (70, Plain, "asset $A; state { $G: Q_Asset<$A>; } genesis { $G = mint(5); % }"),
-    (70, Plain, "asset $A; state { $G: Q_Asset<$A>; } genesis { let $X = mint(5); % $G = $X; }"),
-    (70, Plain, "asset $A; state { $G: Q_Asset<$A>; } genesis { % $G.merge(mint(5)); } entry $E() { % }"),
-    (71, Plain, "asset $A; entry $E($T: Q_Address) { % mint_asset($T, 5); }"),
-    (71, Plain, "asset $A; state { $G: Q_Asset<$A>; } entry $E() writes $G { % $G = checked(mint(5)); }"),
-    (71, Plain, "entry $E($T: Q_Address) { let $X = mint(5); % send($T, $X); }"),
-    (71, Plain, "asset $A; entry $E($L: Q_Asset<$A>) { % mint_asset($L); }"),
-    (71, Signed, "asset $A; entry $E($T: Q_Address) { % mint_asset($T, 5); }"),
-    (71, Signed, "asset $A; asset $B; entry $E($T: Q_Address) burns $A { % send($T, mint(5)); mint(6); }"),
-    (71, Signed, "asset $A; asset $A; state { $G: Q_Asset<$A>; } entry $E() writes $G { $G = mint(5); % }"),
-    (71, Undeclared, "entry $E($T: Q_Address) { % mint_asset($T, 5); }"),
-    (71, Undeclared, "entry $E($T: Q_Address) { let $X = mint(5); % send($T, $X); }"),
-    (72, Plain, "asset $A; entry $E($T: Q_Address) mints $A { % mint_asset($T, 5); }"),
-    (72, Plain, "asset $A; state { $G: Q_Asset<$A>; } entry $E() writes $G mints $A { % $G.merge(mint(5)); }"),
-    (72, Unminted, "asset $A; entry $E() mints $A { % }"),
-    (72, Unminted, "asset $A; asset $B; entry $E() mints $A burns $A mints $B { % }"),
 ];
-
-/// What is said of all entries where a template of this code and case is checked; nothing where supply is not asked
-/// about.
-pub fn signed(code: u16, case: Case) -> Option<bool> {
-    let asked = words::SUPPLY.contains(&code) || case == Minted;
-    asked.then_some(matches!(case, Signed | Undeclared | Minted))
-}
 
 /// The contract of a template, with names, slips and other items by chance.
 pub fn contract(items: &str, seed: u64) -> String {

@@ -5,7 +5,7 @@
 use chance::Chance;
 use form::image::{HEADER, NODE};
 use form::{Tree, kind};
-use isonkaypu::{Entry, Limit, PackError, Place, Report, Span, check_image, check_image_with_authority};
+use isonkaypu::{Limit, PackError, Place, Span, check_image};
 use show::Subject;
 use std::path::Path;
 
@@ -41,44 +41,10 @@ pub fn shown_ward(form: fn(&Subject) -> String) -> String {
     shown(form, "ward.quanta", &sample("ward.image"), Some(&sample("ward.quanta")))
 }
 
-/// Images with every code that is looked for in all contracts: the examples of the file of words, and the ward's
-/// contract.
+/// Images with every code: the examples of the file of words, and the ward's contract.
 pub fn images() -> Vec<Vec<u8>> {
-    let always = words::codes().iter().filter(|entry| !words::SUPPLY.contains(&entry.number));
-    let examples = always.map(|entry| example::image(&entry.before));
+    let examples = words::codes().iter().map(|entry| example::image(&entry.before));
     examples.chain([sample("ward.image")]).collect()
-}
-
-/// The report on a source; with authority, a digit for each entry, supply is asked about too.
-pub fn report_on(source: &str, authority: &str) -> Report {
-    let image = example::image(source);
-    let signed: Vec<bool> = authority.chars().map(|digit| digit == '1').collect();
-    match authority {
-        "" => check_image(&image).unwrap_or_else(|refusal| panic!("{refusal}: {source}")),
-        _ => check_image_with_authority(&image, &signed).unwrap_or_else(|error| panic!("{error}: {source}")),
-    }
-}
-
-/// The report on a source where all of its entries are said to have signed authority, or none; without such a word
-/// supply is not asked about.
-pub fn report_on_all(source: &str, signed: Option<bool>) -> Report {
-    let Some(signed) = signed else {
-        return report_on(source, "");
-    };
-    let image = example::image(source);
-    let entries = Entry::all(&Tree::of(&image).expect("a tree")).len();
-    check_image_with_authority(&image, &vec![signed; entries]).expect("a digit for each entry")
-}
-
-/// Shows a source with itself at hand, and with what is said of its entries.
-pub fn shown_authority(form: fn(&Subject) -> String, source: &str, authority: &str) -> String {
-    let report = report_on(source, authority);
-    form(&Subject::checked("ward.quanta", &report).with_source("ward.quanta", source.as_bytes()))
-}
-
-/// Shows the example of a code.
-pub fn shown_example(form: fn(&Subject) -> String, entry: &words::Entry) -> String {
-    shown_authority(form, &entry.before, &entry.authority_before)
 }
 
 /// The ward's contract with its faults mended.

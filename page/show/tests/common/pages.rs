@@ -1,7 +1,6 @@
 //! The pages that are looked at: one of each sort.
 
-use super::contracts::{SIGNED, UNSIGNED_SUPPLY};
-use super::{mended, sample, shown, shown_authority, shown_source, shown_ward, shown_with};
+use super::{mended, sample, shown, shown_source, shown_ward, shown_with};
 use show::Subject;
 
 pub struct Page {
@@ -44,19 +43,6 @@ const MANY: &str = "contract Ward {
 }
 ";
 
-/// An entry that makes stock, as it should be.
-const SIGNED_SUPPLY: &str = "contract Ward {
-    asset Morphine;
-    state { stock: Q_Asset<Morphine>; pharmacist: Q_Address = deployer; }
-    entry make(amount: u64 signed_by pharmacist)
-        writes stock
-        mints Morphine
-    {
-        stock.merge(mint(amount));
-    }
-}
-";
-
 /// As the reader of examples can read it: the same length, with blanks for what it does not know.
 fn readable(source: &str) -> String {
     let known = |c: char| {
@@ -91,8 +77,6 @@ pub fn pages() -> Vec<Page> {
         page("other-text", "Text and image do not match", 3, other_text(html)),
         page("other-text-accepted", "Text and image do not match", 0, other_text_accepted(html)),
         page("too-long", "Accepted", 0, too_long(html)),
-        page("supply", "Refused: 3 faults", 3, shown_authority(html, UNSIGNED_SUPPLY, SIGNED)),
-        page("supply-accepted", "Accepted", 0, shown_authority(html, SIGNED_SUPPLY, "1")),
         page(
             "text-for-image",
             "Could not be read",

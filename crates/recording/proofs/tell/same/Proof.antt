@@ -1,6 +1,7 @@
 -- `same` meets its contract: one comparison after the other.
 use borrow.Author.Rules.{rules}
 use mathlib.Core.Path.{ap, ◌∙◌}
+use mathlib.Core.Path.{ap, ◌∙◌}
 use lib.Dec.{eqb}
 use Rattle.image.specs.Pick.{both}
 use Rattle.recording.proofs.tell.same.Statement.{statement}
