@@ -6,7 +6,6 @@ use Rattle.rules.specs.Words.{writers}
 use Rattle.rules.specs.Vocabulary.{Rec, below, some_below}
 use Rattle.rules.specs.Model.{is_state}
 use Rattle.rules.specs.Access.{rule50, assign_rule, call_rule, statement_rules}
-use Rattle.records.specs.Words.{Lent, old, new}
 use Rattle.records.specs.Records.{Entered, on}
 use Rattle.nodes.specs.Shown.{View, In, tree_of}
 use Rattle.nodes.specs.Marks.{Marks}
@@ -55,16 +54,16 @@ abbrev pub item51 : ℕ → Tree → List Rec
 item51 p t = keep (has (t.kind p) entry) (λ e. below t statement e (statement_rules t e)) p
 
 -- what F says of the tree of the nodes that are lent; of the tree and the entry
-abbrev pub seen_access : (Tree → List Rec) → (nodes : Lent (List ℕ)) (state writer written : Lent (List Bool)) → AccessTables (old nodes) (old state) (old writer) (old written) → Entered
+abbrev pub seen_access : (Tree → List Rec) → (nodes : List ℕ) (state writer written : List Bool) → AccessTables nodes state writer written → Entered
 seen_access F nodes state writer written T = on F (tree_of T.view)
 
-abbrev pub seen_in : (Tree → ℕ → List Rec) → (nodes : Lent (List ℕ)) (base : ℕ) (state writer written : Lent (List Bool)) → WritingBody (old nodes) base (old state) (old writer) (old written) → Entered
+abbrev pub seen_in : (Tree → ℕ → List Rec) → (nodes : List ℕ) (base : ℕ) (state writer written : List Bool) → WritingBody nodes base state writer written → Entered
 seen_in F nodes base state writer written T = on (λ t. F t T.writing.entry) (tree_of T.writing.view)
 
 -- 51 at all of the nodes that are lent
-abbrev pub swept51 : (nodes : Lent (List ℕ)) (base : ℕ) (state writer written : Lent (List Bool)) → WritingBody (old nodes) base (old state) (old writer) (old written) → Entered
+abbrev pub swept51 : (nodes : List ℕ) (base : ℕ) (state writer written : List Bool) → WritingBody nodes base state writer written → Entered
 swept51 nodes base state writer written T = on (λ t. run (λ p. at51 p t T.writing.entry) base (T.writing.view.upto - base)) (tree_of T.writing.view)
 
 -- no name is marked afterwards
-abbrev pub CleansWritten : (nodes : Lent (List ℕ)) (state writer written : Lent (List Bool)) → Type 0
-CleansWritten nodes state writer written = (T : AccessTables (old nodes) (old state) (old writer) (old written)) → Marks T.view.image (λ w. false) (new written)
+abbrev pub CleansWritten : (nodes : List ℕ) (state writer written written' : List Bool) → Type 0
+CleansWritten nodes state writer written written' = (T : AccessTables nodes state writer written) → Marks T.view.image (λ w. false) written'

@@ -1,10 +1,11 @@
 // The access pass: codes 50 and 51 of document 01, as the pass's part of the list.
+#![tactic(auto)]
+
 ghost use Rattle.std.specs.Prelude.{◌≡◌, Bool, false, List, ℕ, ◌*◌, ◌<◌, ◌^◌};
 ghost use Rattle.image.specs.Admit.{refusal};
 ghost use Rattle.rules.specs.Sweep.{also, has};
 ghost use Rattle.rules.specs.Tree.{writes};
 ghost use Rattle.rules.specs.Access.{group50, is_write, group51, access};
-ghost use Rattle.records.specs.Words.{old, new};
 ghost use Rattle.records.specs.Records.{Adds, Asks};
 ghost use Rattle.nodes.specs.Shown.{View, In, tree_of};
 ghost use Rattle.nodes.specs.Marks.{Marks, Turns};
@@ -21,7 +22,7 @@ use nodes::{ASSIGN, CALL, Cursor, ENTRY, IDENT, INVARIANT, Marks, Past, WRITES};
 // 50 at a node of an Invariant: an Ident that is no state name.
 fn rule50(nodes: &[u8], p: usize, state: &Marks) -> bool
     requires { State nodes.now 0 state.now × In nodes.now 0 p }
-    ensures { Asks (seen (at50 p) nodes 0 state) 50 p result }
+    ensures { Asks (seen (at50 p) nodes.now 0 state.now) 50 p result }
 {
     if nodes::kind(nodes, 0, p) != IDENT {
         return false;
@@ -32,7 +33,7 @@ fn rule50(nodes: &[u8], p: usize, state: &Marks) -> bool
 // 50 in an item, if it is an Invariant.
 fn invariant(nodes: &[u8], item: usize, state: &Marks, out: &mut [u16], count: usize) -> usize
     requires { State nodes.now 0 state.now × In nodes.now 0 item × (count < 2 ^ 50) × (0 < item) }
-    ensures { Adds (seen (item50 item) nodes 0 state) 2048 out count result }
+    ensures { Adds (seen (item50 item) nodes.now 0 state.now) 2048 out.old out.new count result }
 {
     if nodes::kind(nodes, 0, item) != INVARIANT {
         return count;
@@ -50,7 +51,7 @@ fn invariant(nodes: &[u8], item: usize, state: &Marks, out: &mut [u16], count: u
 // 50: the Invariants in order.
 fn group50(nodes: &[u8], state: &Marks, out: &mut [u16], count: usize) -> usize
     requires { State nodes.now 0 state.now × In nodes.now 0 0 × (count < 2 ^ 40) }
-    ensures { Adds (seen group50 nodes 0 state) (2048 * 2048) out count result }
+    ensures { Adds (seen group50 nodes.now 0 state.now) (2048 * 2048) out.old out.new count result }
 {
     let to = nodes::end(nodes, 0, 0);
     let mut total = count;
@@ -69,7 +70,7 @@ fn group50(nodes: &[u8], state: &Marks, out: &mut [u16], count: usize) -> usize
 // The marks of the names of a clause, if it is a Writes clause, are set, or taken off.
 fn mark_clause(nodes: &[u8], clause: usize, on: bool, written: &mut Marks)
     requires { View nodes.now 0 × In nodes.now 0 clause }
-    ensures { Turns on (λ (W : View (old nodes) 0) w. also (has ((tree_of W).kind clause) writes) (clause_has (tree_of W) w) clause) written }
+    ensures { Turns on (λ (W : View nodes.now 0) w. also (has ((tree_of W).kind clause) writes) (clause_has (tree_of W) w) clause) written.old written.new }
 {
     if nodes::kind(nodes, 0, clause) != WRITES {
         return;
@@ -85,7 +86,7 @@ fn mark_clause(nodes: &[u8], clause: usize, on: bool, written: &mut Marks)
 // The marks of the names that the Writes clauses of an entry have are set, or taken off, by a walk over its children before `to`, its first statement.
 fn declared_writes(nodes: &[u8], entry: usize, to: usize, on: bool, written: &mut Marks)
     requires { Head nodes.now 0 entry to }
-    ensures { Turns on (λ (W : View (old nodes) 0). written_in (tree_of W) entry) written }
+    ensures { Turns on (λ (W : View nodes.now 0). written_in (tree_of W) entry) written.old written.new }
 {
     let mut children = Cursor {
         base: 0,
@@ -101,7 +102,7 @@ fn declared_writes(nodes: &[u8], entry: usize, to: usize, on: bool, written: &mu
 // Whether the root of x, peeled at each step, is a state name that the entry does not write.
 fn is_write(nodes: &[u8], base: usize, x: usize, state: &Marks, written: &Marks) -> bool
     requires { Writing nodes.now base state.now written.now × In nodes.now base x }
-    ensures { (T : Writing (old nodes) base (old state) (old written)) → result ≡ is_write (tree_of T.view) T.entry x }
+    ensures { (T : Writing nodes.now base state.now written.now) → result ≡ is_write (tree_of T.view) T.entry x }
 {
     let root = nodes::down(Past::Both, nodes, base, x);
     if nodes::end(nodes, base, x) <= root {
@@ -126,7 +127,7 @@ fn rule51(
     written: &Marks,
 ) -> bool
     requires { WritingBody nodes.now base state.now writer.now written.now × In nodes.now base p }
-    ensures { Asks (seen_in (at51 p) nodes base state writer written) 51 p result }
+    ensures { Asks (seen_in (at51 p) nodes.now base state.now writer.now written.now) 51 p result }
 {
     match nodes::kind(nodes, base, p) {
         ASSIGN => is_write(nodes, base, p + 1, state, written),
@@ -152,7 +153,7 @@ fn statements(
     count: usize,
 ) -> usize
     requires { WritingBody nodes.now base state.now writer.now written.now × (count < 2 ^ 50) × (entry < 2048) }
-    ensures { Adds (in_part entry nodes base (swept51 nodes base state writer written)) 2048 out count result }
+    ensures { Adds (in_part entry nodes.now base (swept51 nodes.now base state.now writer.now written.now)) 2048 out.old out.new count result }
 {
     let end = base + nodes.len() / 16;
     let mut total = count;
@@ -182,8 +183,8 @@ fn entry(
     count: usize,
 ) -> usize
     requires { AccessTables nodes.now state.now writer.now written.old × In nodes.now 0 item × (0 < item) × (count < 2 ^ 50) }
-    ensures adds { Adds (seen_access (item51 item) nodes state writer written) 2048 out count result }
-    ensures cleans_written { CleansWritten nodes state writer written }
+    ensures adds { Adds (seen_access (item51 item) nodes.now state.now writer.now written.old) 2048 out.old out.new count result }
+    ensures cleans_written { CleansWritten nodes.now state.now writer.now written.old written.new }
 {
     if nodes::kind(nodes, 0, item) != ENTRY {
         return count;
@@ -206,7 +207,7 @@ fn group51(
     count: usize,
 ) -> usize
     requires { AccessTables nodes.now state.now writer.now written.old × (count < 2 ^ 40) }
-    ensures { Adds (seen_access group51 nodes state writer written) (2048 * 2048) out count result }
+    ensures { Adds (seen_access group51 nodes.now state.now writer.now written.old) (2048 * 2048) out.old out.new count result }
 {
     let to = nodes::end(nodes, 0, 0);
     let mut total = count;
@@ -225,7 +226,7 @@ fn group51(
 // The marks of the words that write their base, by their numbers.
 fn mark_writers(words: Methods, writer: &mut Marks)
     requires { (s : List ℕ) × (refusal s ≡ 0) × MethodsOf s words }
-    ensures { (s : List ℕ) → refusal s ≡ 0 → MethodsOf s words → Marks s (λ w. false) (old writer) → Marks s is_writer (new writer) }
+    ensures { (s : List ℕ) → refusal s ≡ 0 → MethodsOf s words → Marks s (λ w. false) writer.old → Marks s is_writer writer.new }
 {
     names::mark_number(words.merge, writer);
     names::mark_number(words.split, writer);
@@ -239,7 +240,7 @@ fn mark_writers(words: Methods, writer: &mut Marks)
 // The records of the access pass, from the buffer's start: the words are looked up, and the state names marked.
 pub fn list(nodes: &[u8], words: Words, state: &Marks, out: &mut [u16]) -> usize
     requires { Looked nodes.now words state.now }
-    ensures { Adds (looked access nodes words state) (2 * 2048 * 2048) out 0 result }
+    ensures { Adds (looked access nodes.now words state.now) (2 * 2048 * 2048) out.old out.new 0 result }
 {
     let mut writer = [false; Image::NAMES];
     mark_writers(words.methods, &mut writer);

@@ -1,4 +1,6 @@
 // The kinds and their children: document 01's table, as the states that a row can be in and the step from one to the next.
+#![tactic(auto)]
+
 ghost use Rattle.std.specs.Prelude.{◌≡◌, ◌<◌};
 ghost use Rattle.image.specs.Digits.{Leads, laid_below, next_states, next_state, kind_table, kind_facts};
 

@@ -1,6 +1,8 @@
 // The image of document 01: what its bytes hold, and how they are read: the image's type with its maxima, the header
 // (refusals 1 to 4), the fields of a node, the offsets and the order of names. `admission` has the other refusals, over
 // `children` (the table of children), `name_table` (the names) and `steps` (one step of the walk over the nodes).
+#![tactic(auto)]
+
 ghost use Rattle.std.specs.Prelude.{◌≡◌, ◌+◌, ◌*◌, ◌<◌, ◌≤◌, length};
 ghost use Rattle.image.specs.Maxima.{max_nodes, max_names};
 ghost use Rattle.image.specs.Node.{half, full_word, kind_of, name_of, end_of, from_of, to_of};
@@ -8,14 +10,14 @@ ghost use Rattle.image.specs.Text.{less, off_of};
 ghost use Rattle.image.specs.Admit.{names_at, text_at, layout_ok, header_refusal, admission_of};
 
 // An image whose header is in order: its counts.
-#[derive(Drop)]
+#[derive(Clone, Copy)]
 pub struct Image {
     pub nodes: usize,
     pub names: usize,
 }
 
 // What becomes of a byte slice: an image, or the number of its refusal.
-#[derive(Drop)]
+#[derive(Clone, Copy)]
 pub enum Admission {
     Admitted(Image),
     Refused(usize),

@@ -1,4 +1,5 @@
 // The face of typeck and of why for C and Rust, in plain numbers. A refused image answers its number, 1 to 8, and zeros.
+#![tactic(auto)]
 ghost use Rattle.std.specs.Prelude.{◌≡◌, [], ◌∷◌, ◌++◌, ◌+◌, ◌≤◌, length};
 ghost use Rattle.std.proofs.lemmas.List.Edits.{sets};
 ghost use Rattle.image.specs.Admit.{refusal};
@@ -7,7 +8,6 @@ ghost use Rattle.rules.specs.Resolve.{resolve};
 ghost use Rattle.rules.specs.Access.{access};
 ghost use Rattle.rules.specs.Linear.{linear};
 ghost use Rattle.rules.specs.Answers.{pass_answer, ask, list_answer, list_buffer};
-ghost use Rattle.records.specs.Words.{old, new};
 ghost use Rattle.reasons.specs.Answer.{why_answer, why_buffer};
 ghost use Rattle.why.specs.Face.{explained_by};
 ghost use Rattle.typeck.specs.Face.{answer_of, numbered, listing_of, part_answer, part_words};
@@ -19,14 +19,14 @@ use why::Explained;
 // The number of the image's refusal, 0 where it is admitted.
 #[unsafe(no_mangle)]
 pub extern "C" fn isonkaypu_refusal(image: &[u8]) -> usize
-    ensures { result ≡ refusal (old image) }
+    ensures { result ≡ refusal image.now }
 {
     typeck::refused(image)
 }
 
 // A verdict's number, with its place and span words.
 fn give(v: Verdict, place: &mut u16, from: &mut u32, to: &mut u32) -> usize
-    ensures { Gives (answer_of v) result (new place) (new from) (new to) }
+    ensures { Gives (answer_of v) result place.new from.new to.new }
 {
     match v {
         Verdict::Image(r) => {
@@ -63,7 +63,7 @@ pub extern "C" fn isonkaypu_resolve(
     from: &mut u32,
     to: &mut u32,
 ) -> usize
-    ensures { Gives (pass_answer resolve (old image)) result (new place) (new from) (new to) }
+    ensures { Gives (pass_answer resolve image.now) result place.new from.new to.new }
 {
     give(typeck::resolve(image), place, from, to)
 }
@@ -76,7 +76,7 @@ pub extern "C" fn isonkaypu_access(
     from: &mut u32,
     to: &mut u32,
 ) -> usize
-    ensures { Gives (pass_answer access (old image)) result (new place) (new from) (new to) }
+    ensures { Gives (pass_answer access image.now) result place.new from.new to.new }
 {
     give(typeck::access(image), place, from, to)
 }
@@ -89,7 +89,7 @@ pub extern "C" fn isonkaypu_linear(
     from: &mut u32,
     to: &mut u32,
 ) -> usize
-    ensures { Gives (pass_answer linear (old image)) result (new place) (new from) (new to) }
+    ensures { Gives (pass_answer linear image.now) result place.new from.new to.new }
 {
     give(typeck::linear(image), place, from, to)
 }
@@ -97,7 +97,7 @@ pub extern "C" fn isonkaypu_linear(
 // Four numbers at their place in the row: number, place, span words.
 fn store(numbers: &mut [usize; 12], at: usize, number: usize, place: usize, from: usize, to: usize)
     requires { at + 4 ≤ 12 }
-    ensures { new numbers ≡ sets (old numbers) at (number ∷ place ∷ from ∷ to ∷ []) }
+    ensures { numbers.new ≡ sets numbers.old at (number ∷ place ∷ from ∷ to ∷ []) }
 {
     numbers[at] = number;
     numbers[at + 1] = place;
@@ -108,7 +108,7 @@ fn store(numbers: &mut [usize; 12], at: usize, number: usize, place: usize, from
 // A verdict's four numbers.
 fn note(v: Verdict, numbers: &mut [usize; 12], at: usize)
     requires { at + 4 ≤ 12 }
-    ensures { new numbers ≡ sets (old numbers) at (row (answer_of v)) }
+    ensures { numbers.new ≡ sets numbers.old at (row (answer_of v)) }
 {
     match v {
         Verdict::Image(r) => store(numbers, at, r, 0, 0, 0),
@@ -132,7 +132,7 @@ fn note(v: Verdict, numbers: &mut [usize; 12], at: usize)
 // All verdicts with one admission: number, place and span words of resolve, then of access, then of linear.
 #[unsafe(no_mangle)]
 pub extern "C" fn isonkaypu_verdicts(image: &[u8], numbers: &mut [usize; 12])
-    ensures { new numbers ≡ sets (old numbers) 0 (row (pass_answer resolve (old image)) ++ row (pass_answer access (old image)) ++ row (pass_answer linear (old image))) }
+    ensures { numbers.new ≡ sets numbers.old 0 (row (pass_answer resolve image.now) ++ row (pass_answer access image.now) ++ row (pass_answer linear image.now)) }
 {
     let answers = typeck::verdicts(image);
     let resolve = answers.resolve;
@@ -145,7 +145,7 @@ pub extern "C" fn isonkaypu_verdicts(image: &[u8], numbers: &mut [usize; 12])
 
 // A reply's number, and 1 for yes, 0 for no.
 fn say(v: Reply, yes: &mut u8) -> usize
-    ensures { Says (numbered v) result (new yes) }
+    ensures { Says (numbered v) result yes.new }
 {
     match v {
         Reply::Image(r) => {
@@ -166,7 +166,7 @@ fn say(v: Reply, yes: &mut u8) -> usize
 // Whether the name is that of a state field: 0 with yes 1 or 0, or the image's refusal.
 #[unsafe(no_mangle)]
 pub extern "C" fn isonkaypu_is_state(image: &[u8], name: &[u8], yes: &mut u8) -> usize
-    ensures { Says (ask is_state (old image) (old name)) result (new yes) }
+    ensures { Says (ask is_state image.now name.now) result yes.new }
 {
     say(typeck::is_state(image, name), yes)
 }
@@ -174,7 +174,7 @@ pub extern "C" fn isonkaypu_is_state(image: &[u8], name: &[u8], yes: &mut u8) ->
 // Whether the name is that of an Asset item.
 #[unsafe(no_mangle)]
 pub extern "C" fn isonkaypu_is_declared_asset(image: &[u8], name: &[u8], yes: &mut u8) -> usize
-    ensures { Says (ask is_declared_asset (old image) (old name)) result (new yes) }
+    ensures { Says (ask is_declared_asset image.now name.now) result yes.new }
 {
     say(typeck::is_declared_asset(image, name), yes)
 }
@@ -182,14 +182,14 @@ pub extern "C" fn isonkaypu_is_declared_asset(image: &[u8], name: &[u8], yes: &m
 // Whether the name is that of a known asset.
 #[unsafe(no_mangle)]
 pub extern "C" fn isonkaypu_is_known_asset(image: &[u8], name: &[u8], yes: &mut u8) -> usize
-    ensures { Says (ask is_known_asset (old image) (old name)) result (new yes) }
+    ensures { Says (ask is_known_asset image.now name.now) result yes.new }
 {
     say(typeck::is_known_asset(image, name), yes)
 }
 
 // A list's number, and how many records it has.
 fn tell(v: Listed, count: &mut usize) -> usize
-    ensures { Tells (listing_of v) result (new count) }
+    ensures { Tells (listing_of v) result count.new }
 {
     match v {
         Listed::Refused(r) => {
@@ -206,7 +206,7 @@ fn tell(v: Listed, count: &mut usize) -> usize
 // The full list, or refusal 9 where there are fewer than 4 words for each record.
 #[unsafe(no_mangle)]
 pub extern "C" fn isonkaypu_list(image: &[u8], words: &mut [u16], count: &mut usize) -> usize
-    ensures { Tells (list_answer (old image) (length (old words))) result (new count) × (new words ≡ list_buffer (old image) (old words)) }
+    ensures { Tells (list_answer image.now (length words.old)) result count.new × (words.new ≡ list_buffer image.now words.old) }
 {
     tell(typeck::list(image, words), count)
 }
@@ -218,7 +218,7 @@ pub extern "C" fn isonkaypu_resolve_list(
     words: &mut [u16],
     count: &mut usize,
 ) -> usize
-    ensures { Tells (part_answer resolve (old image)) result (new count) × (new words ≡ part_words resolve (old image) (old words)) }
+    ensures { Tells (part_answer resolve image.now) result count.new × (words.new ≡ part_words resolve image.now words.old) }
 {
     tell(typeck::resolve_list(image, words), count)
 }
@@ -226,7 +226,7 @@ pub extern "C" fn isonkaypu_resolve_list(
 // The access pass's part of the list.
 #[unsafe(no_mangle)]
 pub extern "C" fn isonkaypu_access_list(image: &[u8], words: &mut [u16], count: &mut usize) -> usize
-    ensures { Tells (part_answer access (old image)) result (new count) × (new words ≡ part_words access (old image) (old words)) }
+    ensures { Tells (part_answer access image.now) result count.new × (words.new ≡ part_words access image.now words.old) }
 {
     tell(typeck::access_list(image, words), count)
 }
@@ -234,14 +234,14 @@ pub extern "C" fn isonkaypu_access_list(image: &[u8], words: &mut [u16], count: 
 // The linear pass's part of the list.
 #[unsafe(no_mangle)]
 pub extern "C" fn isonkaypu_linear_list(image: &[u8], words: &mut [u16], count: &mut usize) -> usize
-    ensures { Tells (part_answer linear (old image)) result (new count) × (new words ≡ part_words linear (old image) (old words)) }
+    ensures { Tells (part_answer linear image.now) result count.new × (words.new ≡ part_words linear image.now words.old) }
 {
     tell(typeck::linear_list(image, words), count)
 }
 
 // The number of an answer to why, and how many words it has.
 fn explain(v: Explained, count: &mut usize) -> usize
-    ensures { Counts (explained_by v) result (new count) }
+    ensures { Counts (explained_by v) result count.new }
 {
     match v {
         Explained::Refused(r) => {
@@ -263,7 +263,7 @@ pub extern "C" fn isonkaypu_why(
     words: &mut [u16],
     count: &mut usize,
 ) -> usize
-    ensures { Counts (why_answer (old image) place (length (old words))) result (new count) × (new words ≡ why_buffer (old image) place (old words)) }
+    ensures { Counts (why_answer image.now place (length words.old)) result count.new × (words.new ≡ why_buffer image.now place words.old) }
 {
     explain(why::why(image, place, words), count)
 }

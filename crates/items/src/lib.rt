@@ -1,9 +1,9 @@
 // The items of a contract: which of them there are, and the statements of one, lent as their own part of the node area.
+#![tactic(auto)]
 ghost use Rattle.std.specs.Prelude.{◌≡◌, ◌<◌, eqb};
 ghost use Rattle.image.specs.Pick.{pick};
 ghost use Rattle.rules.specs.Sweep.{either, has};
 ghost use Rattle.rules.specs.Tree.{bodied, statement};
-ghost use Rattle.records.specs.Words.{old};
 ghost use Rattle.nodes.specs.Shown.{View, In, Shown, tree_of};
 ghost use Rattle.nodes.specs.First.{Starts, Body};
 ghost use Rattle.items.specs.Found.{ItemsOf};
@@ -11,7 +11,7 @@ ghost use Rattle.items.specs.Found.{ItemsOf};
 use nodes::{Cursor, ENTRY, EVENT, GENESIS};
 
 // Which items a contract has: an Event, a Genesis. Where it has none, what is asked of them is not asked.
-#[derive(Drop)]
+#[derive(Clone, Copy)]
 pub struct Items {
     pub event: bool,
     pub genesis: bool,
@@ -36,7 +36,7 @@ fn with_item(items: Items, k: usize) -> Items
 // The items of a contract at a glance.
 pub fn find_items(nodes: &[u8]) -> Items
     requires { View nodes.now 0 × In nodes.now 0 0 }
-    ensures { ItemsOf (old nodes) result }
+    ensures { ItemsOf nodes.now result }
 {
     let to = nodes::end(nodes, 0, 0);
     let mut items = Items {
@@ -85,7 +85,7 @@ pub fn is_statement(k: usize) -> bool
 // The first statement of an entry, found child by child; the entry's end if it has none.
 pub fn first_statement(nodes: &[u8], base: usize, entry: usize) -> usize
     requires { View nodes.now base × In nodes.now base entry × (0 < entry) }
-    ensures { (W : View (old nodes) base) → Starts W entry result }
+    ensures { (W : View nodes.now base) → Starts W entry result }
 {
     let to = nodes::end(nodes, base, entry);
     let mut children = Cursor {
@@ -106,7 +106,7 @@ pub fn first_statement(nodes: &[u8], base: usize, entry: usize) -> usize
 // The statements of an entry, from the first one on, as their own part of the node area.
 pub fn statements(nodes: &[u8], base: usize, entry: usize, first: usize) -> &[u8]
     requires { Body nodes.now base entry first }
-    ensures { (W : View (old nodes) base) → Shown W.image result.now first ((tree_of W).end entry) }
+    ensures { (W : View nodes.now base) → Shown W.image result.now first ((tree_of W).end entry) }
 {
     let from = 16 * (first - base);
     let to = 16 * (nodes::end(nodes, base, entry) - base);

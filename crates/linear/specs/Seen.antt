@@ -6,7 +6,6 @@ use Rattle.rules.specs.Sweep.{keep, has}
 use Rattle.rules.specs.Tree.{Tree, entry as entries}
 use Rattle.rules.specs.Vocabulary.{Rec}
 use Rattle.rules.specs.Linear.{marks, uses, linear_entry}
-use Rattle.records.specs.Words.{Lent, old, new}
 use Rattle.records.specs.Records.{Entered, on}
 use Rattle.nodes.specs.Shown.{View, In, tree_of}
 use Rattle.nodes.specs.Marks.{Marks}
@@ -51,15 +50,15 @@ abbrev pub item_linear : ℕ → Tree → List Rec
 item_linear p t = keep (has (t.kind p) entries) (linear_entry t) p
 
 -- what F says of the tree of the nodes that are lent
-abbrev pub seen_linear : (Tree → List Rec) → (nodes : Lent (List ℕ)) (words : Words) (reader burned : Lent (List Bool)) (places first last tallies : Lent (List ℕ))
-    → LinearTables (old nodes) words (old reader) (old burned) (old places) (old first) (old last) (old tallies) → Entered
+abbrev pub seen_linear : (Tree → List Rec) → (nodes : List ℕ) (words : Words) (reader burned : List Bool) (places first last tallies : List ℕ)
+    → LinearTables nodes words reader burned places first last tallies → Entered
 seen_linear F nodes words reader burned places first last tallies T = on F (tree_of T.known.view)
 
 -- the tables are clean again after an item, and no node behind it has a consumer
-abbrev pub CleansRows : ℕ → (nodes : Lent (List ℕ)) (words : Words) (reader burned : Lent (List Bool)) (consumers places first last tallies : Lent (List ℕ)) → Type 0
-CleansRows p nodes words reader burned consumers places first last tallies =
-    (T : LinearTables (old nodes) words (old reader) (old burned) (old places) (old first) (old last) (old tallies))
-    → Clean T.known.view.image (new burned) (new places) (new first) (new last) (new tallies) × Clear ((tree_of T.known.view).end p) (new consumers)
+abbrev pub CleansRows : ℕ → (nodes : List ℕ) (words : Words) (reader burned burned' : List Bool) (consumers consumers' places places' first first' last last' tallies tallies' : List ℕ) → Type 0
+CleansRows p nodes words reader burned burned' consumers consumers' places places' first first' last last' tallies tallies' =
+    (T : LinearTables nodes words reader burned places first last tallies)
+    → Clean T.known.view.image burned' places' first' last' tallies' × Clear ((tree_of T.known.view).end p) consumers'
 
 -- an entry whose rows are noted by name, with no mark or use on any of them yet
 pub record RowsNoted (nodes : List ℕ) (words : Words) (e : ℕ) (reader burned : List Bool) (first last tallies : List ℕ) : Type 0 where

@@ -1,7 +1,7 @@
 // The linear pass: codes 60, 61 and 62 of document 01, entry by entry, as the pass's part of the list.
+#![tactic(auto)]
 ghost use Rattle.std.specs.Prelude.{◌*◌, ◌<◌, ◌^◌};
 ghost use Rattle.rules.specs.Linear.{linear};
-ghost use Rattle.records.specs.Words.{old, new};
 ghost use Rattle.records.specs.Records.{Adds, on};
 ghost use Rattle.nodes.specs.Shown.{In, tree_of};
 ghost use Rattle.linear_occurrences.specs.Counted.{Clear};
@@ -28,7 +28,7 @@ pub fn tally(
     tallies: &mut Tallies,
 )
     requires { RowsNoted nodes.now words entry reader.now burned.old first.now last.now tallies.old × In nodes.now 0 entry × (0 < entry) × Clear entry consumers.old }
-    ensures { (T : RowsNoted (old nodes) words entry (old reader) (old burned) (old first) (old last) (old tallies)) → Tallies-entry T (new burned) (new consumers) (new tallies) }
+    ensures { (T : RowsNoted nodes.now words entry reader.now burned.old first.now last.now tallies.old) → Tallies-entry T burned.new consumers.new tallies.new }
 {
     let asset = words.asset;
     let start = items::first_statement(nodes, 0, entry);
@@ -53,8 +53,8 @@ fn entry(
     count: usize,
 ) -> usize
     requires { LinearTables nodes.now words reader.now burned.old places.old first.old last.old tallies.old × In nodes.now 0 item × (0 < item) × Clear item consumers.old × (count < 2 ^ 49) }
-    ensures adds { Adds (seen_linear (item_linear item) nodes words reader burned places first last tallies) 3070 out count result }
-    ensures cleans_rows { CleansRows item nodes words reader burned consumers places first last tallies }
+    ensures adds { Adds (seen_linear (item_linear item) nodes.now words reader.now burned.old places.old first.old last.old tallies.old) 3070 out.old out.new count result }
+    ensures cleans_rows { CleansRows item nodes.now words reader.now burned.old burned.new consumers.old consumers.new places.old places.new first.old first.new last.old last.new tallies.old tallies.new }
 {
     if nodes::kind(nodes, 0, item) != ENTRY {
         return count;
@@ -85,7 +85,7 @@ fn entries(
     out: &mut [u16],
 ) -> usize
     requires { LinearTables nodes.now words reader.now burned.old places.old first.old last.old tallies.old × Clear 1 consumers.old }
-    ensures { Adds (seen_linear linear nodes words reader burned places first last tallies) (3070 * 2048) out 0 result }
+    ensures { Adds (seen_linear linear nodes.now words reader.now burned.old places.old first.old last.old tallies.old) (3070 * 2048) out.old out.new 0 result }
 {
     let to = nodes::end(nodes, 0, 0);
     let mut total = 0;
@@ -117,7 +117,7 @@ fn entries(
 // The records of the linear pass of an admitted image, from the buffer's start.
 pub fn list(nodes: &[u8], words: names::Words, out: &mut [u16]) -> usize
     requires { LookedWords nodes.now words }
-    ensures { Adds (λ (T : LookedWords (old nodes) words). on linear (tree_of T.view)) (3070 * 2048) out 0 result }
+    ensures { Adds (λ (T : LookedWords nodes.now words). on linear (tree_of T.view)) (3070 * 2048) out.old out.new 0 result }
 {
     let asset_words = linear_parts::asset_words(words);
     let mut reader = [false; Image::NAMES];

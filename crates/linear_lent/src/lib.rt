@@ -1,9 +1,9 @@
 // The linear pass in a table of rows that it is lent ("a table of tracked rows that the linear pass is lent" of document 01): the rows of a contract are stored there, then each is judged where it stands, and blanked.
 // Two functions hold the rows, and a third lends its own; their proofs are walks by hand; they call functions with plain parameters for all else.
+#![tactic(auto)]
 ghost use Rattle.std.specs.Prelude.{◌≡◌, ◌≤◌, length, replicate};
 ghost use Rattle.image.specs.Admit.{refusal};
 ghost use Rattle.rules.specs.Linear.{linear};
-ghost use Rattle.records.specs.Words.{old, new};
 ghost use Rattle.typeck.specs.Face.{Judged, verdict_of};
 ghost use Rattle.linear_table.specs.Table.{blank_row};
 ghost use Rattle.linear_steps.specs.declared.Found.{Found};
@@ -17,7 +17,7 @@ use typeck::Verdict;
 // The steps, one after the other, in the rows that are lent. Proved by hand.
 fn drive(cells: &[u16], rows: &mut [Row]) -> State
     requires { (length cells.now ≡ 2046) × (length rows.old ≡ 511) }
-    ensures { (result ≡ (ran (old cells) (old rows)).0) × (new rows ≡ (ran (old cells) (old rows)).1) }
+    ensures { (result ≡ (ran cells.now rows.old).0) × (rows.new ≡ (ran cells.now rows.old).1) }
 {
     let mut c = linear_steps::start(cells);
     while 0 < c.left {
@@ -32,7 +32,7 @@ fn drive(cells: &[u16], rows: &mut [Row]) -> State
 // The verdict that was found.
 fn answer(image: &[u8], c: State) -> Verdict
     requires { 9 ≤ c.found.number → refusal image.now ≡ 0 }
-    ensures { result ≡ verdict_of (answered (old image) c.found) }
+    ensures { result ≡ verdict_of (answered image.now c.found) }
 {
     let found = c.found;
     let number = found.number;
@@ -49,7 +49,7 @@ fn answer(image: &[u8], c: State) -> Verdict
 // A code and its place, with the span words of the place.
 fn refused_at(image: &[u8], code: u16, place: u16) -> Verdict
     requires { (9 ≤ code) × (refusal image.now ≡ 0) }
-    ensures { (f : Found) → f.number ≡ code → f.place ≡ place → result ≡ verdict_of (answered (old image) f) }
+    ensures { (f : Found) → f.number ≡ code → f.place ≡ place → result ≡ verdict_of (answered image.now f) }
 {
     match Image::read(image) {
         Admission::Refused(number) => Verdict::Image(number),
@@ -70,7 +70,7 @@ fn refused_at(image: &[u8], code: u16, place: u16) -> Verdict
 // The verdict of the linear pass, by the rows that are lent. They are as they were where the image is refused, and blank otherwise. Proved by hand.
 pub fn linear(image: &[u8], rows: &mut [Row]) -> Verdict
     requires { length rows.old ≡ 511 }
-    ensures { JudgedIn (old image) (old rows) result (new rows) }
+    ensures { JudgedIn image.now rows.old result rows.new }
 {
     let cells = linear_table::table_of(image);
     let c = drive(&cells, rows);
@@ -87,7 +87,7 @@ fn blank() -> [Row; 511]
 
 // The same, lent a table of this function's own: its parameters are plain, so whoever calls it is covered. Proved by hand.
 pub fn linear_here(image: &[u8]) -> Verdict
-    ensures { Judged linear (old image) result }
+    ensures { Judged linear image.now result }
 {
     let mut rows = blank();
     linear(image, &mut rows)

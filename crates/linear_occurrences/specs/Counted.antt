@@ -8,7 +8,6 @@ use Rattle.rules.specs.Tree.{Tree, assigned_of, callee_of, assign, call, peels}
 use Rattle.rules.specs.Words.{readers}
 use Rattle.rules.specs.Vocabulary.{some_argument, at_bottom, is_field}
 use Rattle.rules.specs.Linear.{Consumes, Counted}
-use Rattle.records.specs.Words.{Lent, old, new}
 use Rattle.nodes.specs.Shown.{View, In, tree_of}
 use Rattle.nodes.specs.Marks.{Marks}
 use Rattle.nodes.specs.First.{Starts}
@@ -76,8 +75,8 @@ pub record Cells (P : ℕ → ℕ) (r : List ℕ) : Type 0 where
 abbrev pub Puts : ℕ → {X : Type 0} → (X → ℕ → Bool) → List ℕ → List ℕ → Type 0
 Puts c {X} G r r' = (x : X) (P : ℕ → ℕ) → Cells P r → Cells (λ i. pick (G x i) c (P i)) r'
 
-abbrev pub Takes : ℕ → {X : Type 0} → (X → ℕ → Bool) → Lent (List ℕ) → Type 0
-Takes c G consumers = Puts c G (old consumers) (new consumers)
+abbrev pub Takes : ℕ → {X : Type 0} → (X → ℕ → Bool) → List ℕ → List ℕ → Type 0
+Takes c G consumers consumers' = Puts c G consumers consumers'
 
 -- a sweep from `base` has come to p: for each node from p on the table has the one before p that takes it
 pub record Ahead (t : Tree) (base p : ℕ) (r : List ℕ) : Type 0 where
@@ -90,10 +89,10 @@ pub record Clear (p : ℕ) (r : List ℕ) : Type 0 where
   pub cell : (i : ℕ) → p ≤ i → i < max_nodes → get_or r i 0 ≡ 0
 
 -- the answer for node p of a sweep that has come to p is what is found there
-abbrev pub Finds : (nodes : Lent (List ℕ)) (base : ℕ) (reader : Lent (List Bool)) (p : ℕ) (consumers : Lent (List ℕ)) → Occurrence → Type 0
+abbrev pub Finds : (nodes : List ℕ) (base : ℕ) (reader : List Bool) (p : ℕ) (consumers : List ℕ) → Occurrence → Type 0
 Finds nodes base reader p consumers r =
-    (T : Counting (old nodes) base (old reader)) → Ahead (tree_of T.view) base p (old consumers) → Finding (tree_of T.view) T.entry p r
+    (T : Counting nodes base reader) → Ahead (tree_of T.view) base p consumers → Finding (tree_of T.view) T.entry p r
 
 -- what node p itself takes is taken by p; and nothing else of the table changes
-abbrev pub TakesItsOwn : (nodes : Lent (List ℕ)) (base : ℕ) (reader : Lent (List Bool)) (p : ℕ) (consumers : Lent (List ℕ)) → Type 0
-TakesItsOwn nodes base reader p consumers = Takes p (λ (T : Counting (old nodes) base (old reader)) i. takes_node (tree_of T.view) i p) consumers
+abbrev pub TakesItsOwn : (nodes : List ℕ) (base : ℕ) (reader : List Bool) (p : ℕ) (consumers consumers' : List ℕ) → Type 0
+TakesItsOwn nodes base reader p consumers consumers' = Takes p (λ (T : Counting nodes base reader) i. takes_node (tree_of T.view) i p) consumers consumers'

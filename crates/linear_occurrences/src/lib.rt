@@ -1,7 +1,7 @@
 // Counted occurrences ("Linear" of document 01, E5 of document 02): the Idents that an Assign takes as its bare value, or a Call as an argument, each with the node that takes it.
+#![tactic(auto)]
 ghost use Rattle.std.specs.Prelude.{◌≡◌, false, List, ℕ, ◌<◌, get_or, set};
 ghost use Rattle.image.specs.Admit.{refusal};
-ghost use Rattle.records.specs.Words.{old, new};
 ghost use Rattle.nodes.specs.Shown.{View, In, tree_of};
 ghost use Rattle.nodes.specs.Marks.{Marks};
 ghost use Rattle.names.specs.Spelled.{WordsOf};
@@ -15,7 +15,7 @@ use nodes::{ASSIGN, CALL, Cursor, IDENT, Marks, Past};
 pub type Consumers = [u16; Image::NODES];
 
 // What is found at a node: a counted occurrence, as its Ident and the node that consumes it, or nothing.
-#[derive(Drop)]
+#[derive(Clone, Copy)]
 pub enum Occurrence {
     Nothing,
     Consumed { ident: usize, consumer: u16 },
@@ -24,7 +24,7 @@ pub enum Occurrence {
 // An Ident, by what the table has for it.
 fn consumed(consumers: &Consumers, ident: usize) -> Occurrence
     requires { ident < 2048 }
-    ensures { result ≡ consumed_by ident (get_or (old consumers) ident 0) }
+    ensures { result ≡ consumed_by ident (get_or consumers.now ident 0) }
 {
     let consumer = consumers[ident];
     if consumer == 0 {
@@ -36,7 +36,7 @@ fn consumed(consumers: &Consumers, ident: usize) -> Occurrence
 // A node is taken by `consumer`.
 fn take(consumers: &mut Consumers, node: usize, consumer: usize)
     requires { (node < 2048) × (consumer < 2048) }
-    ensures { new consumers ≡ set (old consumers) node consumer }
+    ensures { consumers.new ≡ set consumers.old node consumer }
 {
     consumers[node] = consumer as u16;
 }
@@ -44,7 +44,7 @@ fn take(consumers: &mut Consumers, node: usize, consumer: usize)
 // The Call takes the node that an argument peels to.
 fn take_argument(nodes: &[u8], base: usize, call: usize, argument: usize, consumers: &mut Consumers)
     requires { View nodes.now base × In nodes.now base call × In nodes.now base argument }
-    ensures { Takes call (λ (W : View (old nodes) base) i. peels_to (tree_of W) i argument) consumers }
+    ensures { Takes call (λ (W : View nodes.now base) i. peels_to (tree_of W) i argument) consumers.old consumers.new }
 {
     let bottom = nodes::down(Past::Peels, nodes, base, argument);
     if bottom < nodes::end(nodes, base, argument) {
@@ -55,7 +55,7 @@ fn take_argument(nodes: &[u8], base: usize, call: usize, argument: usize, consum
 // The Call takes the nodes that its arguments peel to: its children after the callee.
 fn take_arguments(nodes: &[u8], base: usize, call: usize, consumers: &mut Consumers)
     requires { View nodes.now base × IsCall nodes.now base call }
-    ensures { Takes call (λ (W : View (old nodes) base) i. is_taken (tree_of W) i call) consumers }
+    ensures { Takes call (λ (W : View nodes.now base) i. is_taken (tree_of W) i call) consumers.old consumers.new }
 {
     let to = nodes::end(nodes, base, call);
     let callee = call + 1;
@@ -81,8 +81,8 @@ pub fn occurrence_at(
     consumers: &mut Consumers,
 ) -> Occurrence
     requires { Counting nodes.now base reader.now × In nodes.now base p }
-    ensures finds { Finds nodes base reader p consumers result }
-    ensures takes_its_own { TakesItsOwn nodes base reader p consumers }
+    ensures finds { Finds nodes.now base reader.now p consumers.old result }
+    ensures takes_its_own { TakesItsOwn nodes.now base reader.now p consumers.old consumers.new }
 {
     match nodes::kind(nodes, base, p) {
         IDENT => consumed(consumers, p),
@@ -105,7 +105,7 @@ pub fn occurrence_at(
 // The marks of the words that only read their arguments.
 pub fn mark_readers(words: Words, reader: &mut Marks)
     requires { (s : List ℕ) × (refusal s ≡ 0) × WordsOf s words }
-    ensures { (s : List ℕ) → refusal s ≡ 0 → WordsOf s words → Marks s (λ w. false) (old reader) → Marks s is_reader (new reader) }
+    ensures { (s : List ℕ) → refusal s ≡ 0 → WordsOf s words → Marks s (λ w. false) reader.old → Marks s is_reader reader.new }
 {
     let get = words.methods.get;
     let contains = words.methods.contains;

@@ -6,7 +6,6 @@ use Rattle.rules.specs.Tree.{Tree, entry as entries, «let», param_let, peels}
 use Rattle.rules.specs.Words.{Q_Asset, split, mint}
 use Rattle.rules.specs.Vocabulary.{alone, Below, below, named, is_field, is_ident, at_bottom}
 use Rattle.rules.specs.Linear.{is_row, is_alias}
-use Rattle.records.specs.Words.{Lent, old}
 use Rattle.nodes.specs.Shown.{View, In, tree_of}
 use Rattle.names.specs.Found.{Numbered}
 use Rattle.places.specs.declared.Note.{Note}
@@ -24,8 +23,8 @@ pub record KnownWords (nodes : List ℕ) (words : Words) : Type 0 where
   pub mint_number : Numbered view.image mint words.mint
 
 -- a question answers what F says of the tree
-abbrev pub SaysOf : (Tree → Bool) → Lent (List ℕ) → Words → Bool → Type 0
-SaysOf F nodes words r = (T : KnownWords (old nodes) words) → r ≡ F (tree_of T.view)
+abbrev pub SaysOf : (Tree → Bool) → List ℕ → Words → Bool → Type 0
+SaysOf F nodes words r = (T : KnownWords nodes words) → r ≡ F (tree_of T.view)
 
 -- a callee Field `split` or Ident `mint`
 abbrev pub is_maker : ℕ → Tree → Bool
@@ -79,9 +78,9 @@ says60 Row = false
 says60 Alias = true
 says60 Other = false
 
-abbrev pub SaysPart : (nodes : Lent (List ℕ)) (words : Words) (p : ℕ) (first : Lent (List ℕ)) → Part → Type 0
+abbrev pub SaysPart : (nodes : List ℕ) (words : Words) (p : ℕ) (first : List ℕ) → Part → Type 0
 SaysPart nodes words p first r =
-    (T : PartAt (old nodes) words p (old first)) → (is_row (tree_of T.known.view) p ≡ says_row r) × (is60 T.entry p (tree_of T.known.view) ≡ says60 r)
+    (T : PartAt nodes words p first) → (is_row (tree_of T.known.view) p ≡ says_row r) × (is60 T.entry p (tree_of T.known.view) ≡ says60 r)
 
 abbrev pub IsLet : List ℕ → ℕ → Type 0
 IsLet nodes p = (W : View nodes 0) → (tree_of W).kind p ≡ 25

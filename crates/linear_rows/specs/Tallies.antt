@@ -5,7 +5,6 @@ use Rattle.image.specs.Maxima.{max_rows}
 use Rattle.image.specs.Pick.{pick}
 use Rattle.rules.specs.Vocabulary.{Rec, rec, only}
 use Rattle.rules.specs.Linear.{related_use}
-use Rattle.records.specs.Words.{Lent, old, new}
 
 -- the cells of row r
 abbrev pub marks_at : List ℕ → ℕ → ℕ
@@ -40,5 +39,5 @@ abbrev pub judged_at : List ℕ → List ℕ → ℕ → List Rec
 judged_at places s r = by_cells (get_or places r 0) (marks_at s r) (count_at s r) (related_at s r)
 
 -- the first n rows are blank afterwards, and nothing else has changed
-abbrev pub Blanks : ℕ → Lent (List ℕ) → Type 0
-Blanks n tallies = (length (new tallies) ≡ length (old tallies)) × ((i : ℕ) → get_or (new tallies) i 0 ≡ pick (ltb i (3 * n)) 0 (get_or (old tallies) i 0))
+abbrev pub Blanks : ℕ → List ℕ → List ℕ → Type 0
+Blanks n tallies tallies' = (length tallies' ≡ length tallies) × ((i : ℕ) → get_or tallies' i 0 ≡ pick (ltb i (3 * n)) 0 (get_or tallies i 0))

@@ -1,8 +1,8 @@
 // The cells of the tracked rows, and what is judged of each row by them: 61 and 62 of document 01.
+#![tactic(auto)]
 ghost use Rattle.std.specs.Prelude.{◌≡◌, ℕ, ◌+◌, ◌*◌, ◌<◌, ◌≤◌, ◌^◌, ltb, eqb, length, get_or, set};
 ghost use Rattle.rules.specs.Vocabulary.{rec, only};
 ghost use Rattle.rules.specs.Sweep.{run};
-ghost use Rattle.records.specs.Words.{old, new};
 ghost use Rattle.records.specs.Records.{Adds, under, hit_list};
 ghost use Rattle.linear_rows.specs.Tallies.{marks_at, count_at, related_at, judged_at, Blanks};
 
@@ -27,7 +27,7 @@ fn wide(x: u16) -> usize
 // A cell of a row.
 pub fn cell(tallies: &Tallies, row: usize, field: usize) -> usize
     requires { (row < 511) × (field < 3) }
-    ensures { (result ≡ get_or (old tallies) (3 * row + field) 0) × (result < 65536) }
+    ensures { (result ≡ get_or tallies.now (3 * row + field) 0) × (result < 65536) }
 {
     wide(tallies[3 * row + field])
 }
@@ -35,7 +35,7 @@ pub fn cell(tallies: &Tallies, row: usize, field: usize) -> usize
 // 61 at a row: it has neither a mark nor a counted occurrence.
 fn is_unused(tallies: &Tallies, row: usize) -> bool
     requires { row < 511 }
-    ensures { result ≡ eqb (marks_at (old tallies) row + count_at (old tallies) row) 0 }
+    ensures { result ≡ eqb (marks_at tallies.now row + count_at tallies.now row) 0 }
 {
     cell(tallies, row, MARKS) + cell(tallies, row, COUNT) == 0
 }
@@ -43,7 +43,7 @@ fn is_unused(tallies: &Tallies, row: usize) -> bool
 // 62 at a row: over one, with its related word.
 fn used_twice(tallies: &Tallies, row: usize) -> Hit
     requires { row < 511 }
-    ensures { (p : ℕ) → only (ltb 1 (marks_at (old tallies) row + count_at (old tallies) row)) (rec 62 p (related_at (old tallies) row)) ≡ hit_list result 62 p }
+    ensures { (p : ℕ) → only (ltb 1 (marks_at tallies.now row + count_at tallies.now row)) (rec 62 p (related_at tallies.now row)) ≡ hit_list result 62 p }
 {
     if cell(tallies, row, MARKS) + cell(tallies, row, COUNT) <= 1 {
         return Hit::Nothing;
@@ -54,7 +54,7 @@ fn used_twice(tallies: &Tallies, row: usize) -> Hit
 // The cells of a row are blank again.
 pub fn blank(tallies: &mut Tallies, row: usize)
     requires { row < 511 }
-    ensures { new tallies ≡ set (set (set (old tallies) (3 * row) 0) (3 * row + 1) 0) (3 * row + 2) 0 }
+    ensures { tallies.new ≡ set (set (set tallies.old (3 * row) 0) (3 * row + 1) 0) (3 * row + 2) 0 }
 {
     tallies[3 * row + MARKS] = 0;
     tallies[3 * row + COUNT] = 0;
@@ -71,8 +71,8 @@ fn judge_row(
     count: usize,
 ) -> usize
     requires { (entry < 2048) × (row < 511) × (count < 2 ^ 55) }
-    ensures adds { Adds (λ (_ : Unit {0}). under entry (judged_at (old places) (old tallies) row)) 2 out count result }
-    ensures tallies_value { new tallies ≡ set (set (set (old tallies) (3 * row) 0) (3 * row + 1) 0) (3 * row + 2) 0 }
+    ensures adds { Adds (λ (_ : Unit {0}). under entry (judged_at places.now tallies.old row)) 2 out.old out.new count result }
+    ensures tallies_value { tallies.new ≡ set (set (set tallies.old (3 * row) 0) (3 * row + 1) 0) (3 * row + 2) 0 }
 {
     let place = wide(places[row]);
     let first = records::emit_if(is_unused(tallies, row), out, count, 61, place, entry);
@@ -91,8 +91,8 @@ pub fn judge(
     count: usize,
 ) -> usize
     requires { (entry < 2048) × (n ≤ 511) × (count < 2 ^ 50) }
-    ensures adds { Adds (λ (_ : Unit {0}). under entry (run (judged_at (old places) (old tallies)) 0 n)) 1022 out count result }
-    ensures blanks { Blanks n tallies }
+    ensures adds { Adds (λ (_ : Unit {0}). under entry (run (judged_at places.now tallies.old) 0 n)) 1022 out.old out.new count result }
+    ensures blanks { Blanks n tallies.old tallies.new }
 {
     let mut total = count;
     let mut row = 0;

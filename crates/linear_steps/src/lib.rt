@@ -1,20 +1,20 @@
 // One step of the linear pass in a table of rows that it is lent: a row of the contract is stored, or the one that stands there is judged and blanked.
+#![tactic(auto)]
 ghost use Rattle.std.specs.Prelude.{◌≡◌, ◌<◌, length};
-ghost use Rattle.records.specs.Words.{old};
 ghost use Rattle.linear_table.specs.Table.{row_in, blank_row};
 ghost use Rattle.linear_steps.specs.Step.{found_at, judge_row, row_before, next_of, step_of, state_with, start_of};
 
 use linear_table::{ALIAS, REFUSED, Row};
 
 // What was found, in document 01's numbers: 0 nothing, 1 to 8 the image's refusal, else a code with its place.
-#[derive(Drop)]
+#[derive(Clone, Copy)]
 pub struct Found {
     pub number: u16,
     pub place: u16,
 }
 
 // The row that the next step takes, how many steps are left, and what was found.
-#[derive(Drop)]
+#[derive(Clone, Copy)]
 pub struct State {
     pub at: usize,
     pub left: usize,
@@ -22,7 +22,7 @@ pub struct State {
 }
 
 // What a step gives: the row to store, and the state.
-#[derive(Drop)]
+#[derive(Clone, Copy)]
 pub struct Turn {
     pub row: Row,
     pub state: State,
@@ -49,7 +49,7 @@ fn state_of(left: usize, number: u16, place: u16) -> State
 // Where the steps start: a refused image has none; else there are two for each row, from the last to the first, and the first 60 is found behind all rows.
 pub fn start(cells: &[u16]) -> State
     requires { length cells.now ≡ 2046 }
-    ensures { result ≡ start_of (old cells) }
+    ensures { result ≡ start_of cells.now }
 {
     let refused = cells[REFUSED];
     if refused != 0 {
@@ -65,7 +65,7 @@ pub fn start(cells: &[u16]) -> State
 // A row of the cells.
 fn row_in(cells: &[u16], i: usize) -> Row
     requires { (length cells.now ≡ 2046) × (i < 511) }
-    ensures { result ≡ row_in (old cells) i }
+    ensures { result ≡ row_in cells.now i }
 {
     Row {
         name: cells[4 * i],
@@ -131,7 +131,7 @@ pub fn blank_row() -> Row
 // One step: a row is stored, or the one that stands there is judged and blanked.
 pub fn advance(cells: &[u16], c: State, row: Row) -> Turn
     requires { (0 < c.left) × (c.at < 511) × (length cells.now ≡ 2046) }
-    ensures { result ≡ step_of (old cells) c row }
+    ensures { result ≡ step_of cells.now c row }
 {
     let found = c.found;
     if 512 <= c.left {

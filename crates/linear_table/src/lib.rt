@@ -1,7 +1,7 @@
 // The table of tracked rows of a contract in plain cells ("Linear" of document 01): the rows of its entries in order, up to the first entry that has a 60, which is an offence before those of its rows and of all entries after it.
+#![tactic(auto)]
 ghost use Rattle.std.specs.Prelude.{◌≡◌, List, [], ◌++◌, ◌+◌, ◌*◌, ◌<◌, ◌≤◌, length, get_or};
 ghost use Rattle.rules.specs.Sweep.{run};
-ghost use Rattle.records.specs.Words.{old, new};
 ghost use Rattle.nodes.specs.Shown.{In, Admitted, tree_of};
 ghost use Rattle.linear_occurrences.specs.Counted.{Clear};
 ghost use Rattle.linear_tracked.specs.Rows.{Unrowed, TakesRows, Placed, PlaceOf};
@@ -19,7 +19,7 @@ use nodes::{Cursor, ENTRY, Marks};
 use places::Places;
 
 // A tracked row: the number of its name, its place, its burn marks and its counted occurrences.
-#[derive(Drop)]
+#[derive(Clone, Copy)]
 pub struct Row {
     pub name: u16,
     pub place: u16,
@@ -43,7 +43,7 @@ fn wide(x: u16) -> usize
 // A row is stored in its four cells.
 fn put(table: &mut Table, i: usize, row: Row)
     requires { i < 511 }
-    ensures { new table ≡ stored (old table) i row }
+    ensures { table.new ≡ stored table.old i row }
 {
     table[4 * i] = row.name;
     table[4 * i + 1] = row.place;
@@ -54,7 +54,7 @@ fn put(table: &mut Table, i: usize, row: Row)
 // The row of an entry that has this place, with so many marks and occurrences.
 fn row_of(nodes: &[u8], place: u16, marks: u16, count: u16) -> Row
     requires { PlaceOf nodes.now place }
-    ensures { (T : PlaceOf (old nodes) place) → result ≡ row_by T.view.image T.row place marks count }
+    ensures { (T : PlaceOf nodes.now place) → result ≡ row_by T.view.image T.row place marks count }
 {
     let p = linear_tracked::name_at(nodes, wide(place));
     let name = nodes::name(nodes, 0, p) as u16;
@@ -76,8 +76,8 @@ fn stand(
     total: usize,
 )
     requires { Placed nodes.now n places.now × (total + n ≤ 511) }
-    ensures holds { (T : Placed (old nodes) n (old places)) (rows : List Row) → length rows ≡ total → Holds rows (old table) → Holds (rows ++ run (rows_by T (old tallies)) 0 n) (new table) }
-    ensures blanks { Blanks n tallies }
+    ensures holds { (T : Placed nodes.now n places.now) (rows : List Row) → length rows ≡ total → Holds rows table.old → Holds (rows ++ run (rows_by T tallies.old) 0 n) table.new }
+    ensures blanks { Blanks n tallies.old tallies.new }
 {
     let mut k = 0;
     while k < n {
@@ -89,7 +89,7 @@ fn stand(
 }
 
 // What became of an item: how many rows there are, and the place of its first 60, 0 where it has none.
-#[derive(Drop)]
+#[derive(Clone, Copy)]
 pub struct Stood {
     pub rows: usize,
     pub alias: usize,
@@ -105,8 +105,8 @@ fn track_entry(
     last: &mut Places,
 ) -> Stood
     requires { Unrowed nodes.now words entry places.old first.old last.old }
-    ensures rows_bound { (result.rows ≤ 511) × TakesRows nodes words entry places first last result.rows }
-    ensures alias_bound { (result.alias < 65536) × ((T : Unrowed (old nodes) words entry (old places) (old first) (old last)) → First60 (entry60s (tree_of T.known.view) entry) result.alias) }
+    ensures rows_bound { (result.rows ≤ 511) × TakesRows nodes.now words entry places.old places.new first.old first.new last.old last.new result.rows }
+    ensures alias_bound { (result.alias < 65536) × ((T : Unrowed nodes.now words entry places.old first.old last.old) → First60 (entry60s (tree_of T.known.view) entry) result.alias) }
 {
     let mut out = [0u16; 4];
     let tracked = linear_tracked::track(words, nodes, entry, places, first, last, &mut out, 0);
@@ -134,7 +134,7 @@ fn entry(
     total: usize,
 ) -> Stood
     requires { LinearTables nodes.now words reader.now burned.old places.old first.old last.old tallies.old × In nodes.now 0 item × (0 < item) × Clear item consumers.old × (4 * total < item) }
-    ensures { (T : LinearTables (old nodes) words (old reader) (old burned) (old places) (old first) (old last) (old tallies)) → ItemStands T.known.view.image item total (old table) (new table) (new burned) (new consumers) (new places) (new first) (new last) (new tallies) result }
+    ensures { (T : LinearTables nodes.now words reader.now burned.old places.old first.old last.old tallies.old) → ItemStands T.known.view.image item total table.old table.new burned.new consumers.new places.new first.new last.new tallies.new result }
 {
     if nodes::kind(nodes, 0, item) != ENTRY {
         return Stood {
@@ -174,7 +174,7 @@ fn entries(
     table: &mut Table,
 ) -> usize
     requires { LinearTables nodes.now words reader.now burned.old places.old first.old last.old tallies.old × Clear 1 consumers.old × Holds [] table.old }
-    ensures { (result < 65536) × ((T : LinearTables (old nodes) words (old reader) (old burned) (old places) (old first) (old last) (old tallies)) → Cut T.known.view.image (new table) result) }
+    ensures { (result < 65536) × ((T : LinearTables nodes.now words reader.now burned.old places.old first.old last.old tallies.old) → Cut T.known.view.image table.new result) }
 {
     let to = nodes::end(nodes, 0, 0);
     let mut total = 0;
@@ -211,7 +211,7 @@ fn entries(
 // The table of an admitted image.
 fn tracked(image: &[u8], head: Image) -> Table
     requires { Admitted image.now head }
-    ensures { TableOf (old image) result }
+    ensures { TableOf image.now result }
 {
     let nodes = nodes::area(image, head);
     let words = names::find_words(image, head);
@@ -254,7 +254,7 @@ fn refused(number: usize) -> Table
 
 // The table of any bytes.
 pub fn table_of(image: &[u8]) -> Table
-    ensures { TableOf (old image) result }
+    ensures { TableOf image.now result }
 {
     match admission::admit(image) {
         Admission::Refused(number) => refused(number),

@@ -5,7 +5,6 @@ use Rattle.rules.specs.Sweep.{keep, has}
 use Rattle.rules.specs.Tree.{Tree, tree, entry as entries, «let»}
 use Rattle.rules.specs.Vocabulary.{Rec, Below, named}
 use Rattle.rules.specs.Linear.{is_row, place_of, rule60}
-use Rattle.records.specs.Words.{Lent, old, new}
 use Rattle.nodes.specs.Shown.{View, In, tree_of}
 use Rattle.places.specs.declared.Note.{Note}
 use Rattle.places.specs.Places.{Places}
@@ -33,16 +32,16 @@ pub record Unrowed (nodes : List ℕ) (words : Words) (e : ℕ) (places first la
   pub rows : Rows known.view.image [] 0 places first last
 
 -- after part p there are r rows, for n before: one more, if it declares one. A row's node has at least four nodes.
-abbrev pub TakesRow : (nodes : Lent (List ℕ)) (words : Words) (p n : ℕ) (places first last : Lent (List ℕ)) → ℕ → Type 0
-TakesRow nodes words p n places first last r =
-    (T : PartAt (old nodes) words p (old first)) → (4 * r + p ≤ 4 * n + (tree_of T.known.view).end p)
-    × ((xs : List ℕ) → Rows T.known.view.image xs n (old places) (old first) (old last) → Rows T.known.view.image (xs ++ row_at p (tree_of T.known.view)) r (new places) (new first) (new last))
+abbrev pub TakesRow : (nodes : List ℕ) (words : Words) (p n : ℕ) (places places' first first' last last' : List ℕ) → ℕ → Type 0
+TakesRow nodes words p n places places' first first' last last' r =
+    (T : PartAt nodes words p first) → (4 * r + p ≤ 4 * n + (tree_of T.known.view).end p)
+    × ((xs : List ℕ) → Rows T.known.view.image xs n places first last → Rows T.known.view.image (xs ++ row_at p (tree_of T.known.view)) r places' first' last')
 
 -- after the whole entry there are r rows, all of its own
-abbrev pub TakesRows : (nodes : Lent (List ℕ)) (words : Words) (e : ℕ) (places first last : Lent (List ℕ)) → ℕ → Type 0
-TakesRows nodes words e places first last r =
-    (T : Unrowed (old nodes) words e (old places) (old first) (old last)) → (4 * r + e < (tree_of T.known.view).end e)
-    × Rows T.known.view.image (rows_of e (tree_of T.known.view)) r (new places) (new first) (new last)
+abbrev pub TakesRows : (nodes : List ℕ) (words : Words) (e : ℕ) (places places' first first' last last' : List ℕ) → ℕ → Type 0
+TakesRows nodes words e places places' first first' last last' r =
+    (T : Unrowed nodes words e places first last) → (4 * r + e < (tree_of T.known.view).end e)
+    × Rows T.known.view.image (rows_of e (tree_of T.known.view)) r places' first' last'
 
 -- the places of the n rows of an entry
 pub record Placed (nodes : List ℕ) (n : ℕ) (places : List ℕ) : Type 0 where
@@ -54,10 +53,10 @@ pub record Placed (nodes : List ℕ) (n : ℕ) (places : List ℕ) : Type 0 wher
   pub rows : Rows view.image (rows_of entry (tree_of view)) n places first last
 
 -- a table by name of these rows notes nothing afterwards
-abbrev pub Clears : Lent (List ℕ) → ℕ → Lent (List ℕ) → Lent (List ℕ) → Type 0
-Clears nodes n places rows =
-    (T : Placed (old nodes) n (old places)) (note : Note) → Places T.view.image (λ w. noted note (named (tree_of T.view) w) 0 0 (rows_of T.entry (tree_of T.view))) (old rows)
-    → Places T.view.image (λ w. 0) (new rows)
+abbrev pub Clears : List ℕ → ℕ → List ℕ → List ℕ → List ℕ → Type 0
+Clears nodes n places rows rows' =
+    (T : Placed nodes n places) (note : Note) → Places T.view.image (λ w. noted note (named (tree_of T.view) w) 0 0 (rows_of T.entry (tree_of T.view))) rows
+    → Places T.view.image (λ w. 0) rows'
 
 -- the place of a row, and the node that declares it
 pub record PlaceOf (nodes : List ℕ) (place : ℕ) : Type 0 where

@@ -1,10 +1,10 @@
 // The tracked rows of an entry ("Linear" of document 01) and its 60s, collected in one walk over its parts; and taken off again.
+#![tactic(auto)]
 ghost use Rattle.std.specs.Prelude.{◌≡◌, ◌+◌, ◌*◌, ◌<◌, ◌≤◌, ◌^◌};
 ghost use Rattle.rules.specs.Sweep.{same};
 ghost use Rattle.rules.specs.Tree.{«let»};
 ghost use Rattle.rules.specs.Vocabulary.{below, named};
 ghost use Rattle.rules.specs.Linear.{rule60};
-ghost use Rattle.records.specs.Words.{old, new};
 ghost use Rattle.records.specs.Records.{Adds, on, within};
 ghost use Rattle.nodes.specs.Shown.{View, Worded, tree_of};
 ghost use Rattle.places.specs.declared.Note.TheVariants.{Off};
@@ -28,14 +28,14 @@ fn wide(x: u16) -> usize
 // A row's number, from 1 on, is noted for the word of node p.
 fn note_row(note: Note, row: usize, nodes: &[u8], p: usize, rows: &mut Places)
     requires { Worded nodes.now 0 p × (row < 65536) }
-    ensures { Notes (λ (W : View (old nodes) 0) w v. noting note v (same ((tree_of W).text p) w) row) rows }
+    ensures { Notes (λ (W : View nodes.now 0) w v. noting note v (same ((tree_of W).text p) w) row) rows.old rows.new }
 {
     let i = nodes::name(nodes, 0, p) - 1;
     rows[i] = places::taken(note, rows[i], row as u16);
 }
 
 // How far a walk over the parts of an entry has come: so many rows, and so many records of the list.
-#[derive(Drop)]
+#[derive(Clone, Copy)]
 pub struct Tracked {
     pub rows: usize,
     pub count: usize,
@@ -55,8 +55,8 @@ fn take_part(
     count: usize,
 ) -> Tracked
     requires { PartAt nodes.now words p first.old × (entry < 2048) × (4 * n < p) × (count < 2 ^ 51) }
-    ensures takes_row { TakesRow nodes words p n places first last result.rows }
-    ensures adds { Adds (within entry p (p + 1) (λ (T : PartAt (old nodes) words p (old first)). on (λ t. at60 p t T.entry) (tree_of T.known.view))) 1 out count result.count }
+    ensures takes_row { TakesRow nodes.now words p n places.old places.new first.old first.new last.old last.new result.rows }
+    ensures adds { Adds (within entry p (p + 1) (λ (T : PartAt nodes.now words p first.old). on (λ t. at60 p t T.entry) (tree_of T.known.view))) 1 out.old out.new count result.count }
 {
     match linear_parts::part_of(words, nodes, p, first) {
         Part::Row => {
@@ -88,8 +88,8 @@ pub fn track(
     count: usize,
 ) -> Tracked
     requires { Unrowed nodes.now words entry places.old first.old last.old × (count < 2 ^ 50) }
-    ensures rows_bound { (result.rows ≤ 511) × TakesRows nodes words entry places first last result.rows }
-    ensures adds { Adds (λ (T : Unrowed (old nodes) words entry (old places) (old first) (old last)). on (λ t. below t «let» entry (rule60 t entry)) (tree_of T.known.view)) 2048 out count result.count }
+    ensures rows_bound { (result.rows ≤ 511) × TakesRows nodes.now words entry places.old places.new first.old first.new last.old last.new result.rows }
+    ensures adds { Adds (λ (T : Unrowed nodes.now words entry places.old first.old last.old). on (λ t. below t «let» entry (rule60 t entry)) (tree_of T.known.view)) 2048 out.old out.new count result.count }
 {
     let to = nodes::end(nodes, 0, entry);
     let mut tracked = Tracked { rows: 0, count };
@@ -119,7 +119,7 @@ pub fn track(
 // The node that has the name of the row at this place: the place itself, or the node after a Let.
 pub fn name_at(nodes: &[u8], place: usize) -> usize
     requires { PlaceOf nodes.now place }
-    ensures { (T : PlaceOf (old nodes) place) → result ≡ T.row + 1 }
+    ensures { (T : PlaceOf nodes.now place) → result ≡ T.row + 1 }
 {
     if nodes::kind(nodes, 0, place) == LET {
         return place + 1;
@@ -130,7 +130,7 @@ pub fn name_at(nodes: &[u8], place: usize) -> usize
 // What is noted for the name of the row at this place is taken off.
 fn untrack_row(nodes: &[u8], place: usize, rows: &mut Places)
     requires { PlaceOf nodes.now place }
-    ensures { Noted (λ (T : PlaceOf (old nodes) place). T.view.image) (λ T w v. noting Off v (named (tree_of T.view) w T.row) 0) (old rows) (new rows) }
+    ensures { Noted (λ (T : PlaceOf nodes.now place). T.view.image) (λ T w v. noting Off v (named (tree_of T.view) w T.row) 0) rows.old rows.new }
 {
     note_row(Note::Off, 0, nodes, name_at(nodes, place), rows);
 }
@@ -138,7 +138,7 @@ fn untrack_row(nodes: &[u8], place: usize, rows: &mut Places)
 // What the rows of an entry set in a table by name is taken off again, row by row.
 pub fn untrack(n: usize, nodes: &[u8], places: &Cells, rows: &mut Places)
     requires { Placed nodes.now n places.now }
-    ensures { Clears nodes n places rows }
+    ensures { Clears nodes.now n places.now rows.old rows.new }
 {
     let mut k = 0;
     while k < n {

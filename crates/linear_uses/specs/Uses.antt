@@ -6,7 +6,6 @@ use Rattle.rules.specs.Tree.{Tree, param, burns, ident}
 use Rattle.rules.specs.Words.{Q_Asset}
 use Rattle.rules.specs.Vocabulary.{alone, below, some_below, named}
 use Rattle.rules.specs.Linear.{is_burned, is_counted}
-use Rattle.records.specs.Words.{Lent, old, new}
 use Rattle.nodes.specs.Shown.{View, Worded, tree_of}
 use Rattle.nodes.specs.Marks.{Marks}
 use Rattle.names.specs.Found.{Numbered}
@@ -73,15 +72,15 @@ pub record Using (nodes : List ℕ) (base : ℕ) (reader : List Bool) (rows : Li
 
 -- a function that is lent the rows puts x on the row that the table notes for a word, as a mark, while there is no occurrence; or the
 -- Ident that was found, as a counted occurrence
-abbrev pub Marks-one : {nodes : List ℕ} {base : ℕ} {rows : List ℕ} → OnRows nodes base rows → ℕ → Lent (List ℕ) → Type 0
-Marks-one T p tallies =
-    (M : ℕ → List ℕ) (x : ℕ) → Tallied M (λ r. []) (old tallies)
-    → Tallied (λ r. M r ++ on_row T.row_of r ((tree_of T.view).text p) x) (λ r. []) (new tallies)
+abbrev pub Marks-one : {nodes : List ℕ} {base : ℕ} {rows : List ℕ} → OnRows nodes base rows → ℕ → List ℕ → List ℕ → Type 0
+Marks-one T p tallies tallies' =
+    (M : ℕ → List ℕ) (x : ℕ) → Tallied M (λ r. []) tallies
+    → Tallied (λ r. M r ++ on_row T.row_of r ((tree_of T.view).text p) x) (λ r. []) tallies'
 
-abbrev pub Uses-one : {nodes : List ℕ} {base : ℕ} {rows : List ℕ} → OnRows nodes base rows → Occurrence → Lent (List ℕ) → Type 0
-Uses-one T found tallies =
-    (M U : ℕ → List ℕ) → Tallied M U (old tallies)
-    → Tallied M (λ r. U r ++ for_ident found (λ i. on_row T.row_of r ((tree_of T.view).text i) i)) (new tallies)
+abbrev pub Uses-one : {nodes : List ℕ} {base : ℕ} {rows : List ℕ} → OnRows nodes base rows → Occurrence → List ℕ → List ℕ → Type 0
+Uses-one T found tallies tallies' =
+    (M U : ℕ → List ℕ) → Tallied M U tallies
+    → Tallied M (λ r. U r ++ for_ident found (λ i. on_row T.row_of r ((tree_of T.view).text i) i)) tallies'
 
 -- the Ident that was found, if one was, is a word of the part
 abbrev pub Spoken : List ℕ → ℕ → Occurrence → Type 0

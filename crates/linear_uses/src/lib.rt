@@ -1,6 +1,6 @@
 // Marks and occurrences on the tracked rows: "Burn mark" and "Counted occurrences" of document 01, and which occurrence 62 is related to (E4 of document 02).
+#![tactic(auto)]
 ghost use Rattle.std.specs.Prelude.{◌≡◌, Bool, false, List, [], ◌++◌, ℕ, ◌+◌, ◌*◌, ◌<◌, eqb, get_or, set};
-ghost use Rattle.records.specs.Words.{old, new};
 ghost use Rattle.nodes.specs.Shown.{In, Worded, tree_of};
 ghost use Rattle.nodes.specs.Marks.{Marks};
 ghost use Rattle.nodes.specs.First.{Head};
@@ -16,7 +16,7 @@ use places::Places;
 // One more in a cell of a row.
 fn add_one(tallies: &mut Tallies, row: usize, field: usize)
     requires { (row < 511) × (field < 3) × (get_or tallies.old (3 * row + field) 0 < 65535) }
-    ensures { new tallies ≡ set (old tallies) (3 * row + field) (get_or (old tallies) (3 * row + field) 0 + 1) }
+    ensures { tallies.new ≡ set tallies.old (3 * row + field) (get_or tallies.old (3 * row + field) 0 + 1) }
 {
     let i = 3 * row + field;
     tallies[i] = tallies[i] + 1;
@@ -25,7 +25,7 @@ fn add_one(tallies: &mut Tallies, row: usize, field: usize)
 // A mark on the row that the table notes for the word of node p, if it notes one.
 fn mark_row(rows: &Places, nodes: &[u8], p: usize, tallies: &mut Tallies)
     requires { OnRows nodes.now 0 rows.now × Worded nodes.now 0 p × SpareMarks tallies.old }
-    ensures { (T : OnRows (old nodes) 0 (old rows)) → Marks-one T p tallies }
+    ensures { (T : OnRows nodes.now 0 rows.now) → Marks-one T p tallies.old tallies.new }
 {
     let row = places::at(rows, nodes, 0, p);
     if row == 0 {
@@ -45,8 +45,8 @@ fn burn_mark(
     tallies: &mut Tallies,
 )
     requires { Burning nodes.now entry asset burned.now rows.now × In nodes.now 0 p × SpareMarks tallies.old }
-    ensures { (T : Burning (old nodes) entry asset (old burned) (old rows)) (M : ℕ → List ℕ) → Tallied M (λ r. []) (old tallies)
-        → Tallied (λ r. M r ++ burn_at (tree_of T.on_rows.view) entry T.on_rows.row_of r p) (λ r. []) (new tallies) }
+    ensures { (T : Burning nodes.now entry asset burned.now rows.now) (M : ℕ → List ℕ) → Tallied M (λ r. []) tallies.old
+        → Tallied (λ r. M r ++ burn_at (tree_of T.on_rows.view) entry T.on_rows.row_of r p) (λ r. []) tallies.new }
 {
     if nodes::kind(nodes, 0, p) != PARAM {
         return;
@@ -71,7 +71,7 @@ fn burn_marks(
     tallies: &mut Tallies,
 )
     requires { Burning nodes.now entry asset burned.now rows.now × Head nodes.now 0 entry to × Blank tallies.old }
-    ensures { (T : Burning (old nodes) entry asset (old burned) (old rows)) → Tallied (burns_on (tree_of T.on_rows.view) entry T.on_rows.row_of) (λ r. []) (new tallies) }
+    ensures { (T : Burning nodes.now entry asset burned.now rows.now) → Tallied (burns_on (tree_of T.on_rows.view) entry T.on_rows.row_of) (λ r. []) tallies.new }
 {
     let mut children = Cursor {
         base: 0,
@@ -95,8 +95,8 @@ pub fn mark_burned(
     tallies: &mut Tallies,
 )
     requires { Unburned nodes.now asset burned.old rows.now × Head nodes.now 0 entry to × Blank tallies.old }
-    ensures { (T : Unburned (old nodes) asset (old burned) (old rows)) → Marks T.on_rows.view.image (λ w. false) (new burned)
-        × Tallied (burns_on (tree_of T.on_rows.view) entry T.on_rows.row_of) (λ r. []) (new tallies) }
+    ensures { (T : Unburned nodes.now asset burned.old rows.now) → Marks T.on_rows.view.image (λ w. false) burned.new
+        × Tallied (burns_on (tree_of T.on_rows.view) entry T.on_rows.row_of) (λ r. []) tallies.new }
 {
     nodes::mark_parts(BURNS, nodes, entry, to, true, burned);
     burn_marks(asset, nodes, entry, to, burned, rows, tallies);
@@ -106,7 +106,7 @@ pub fn mark_burned(
 // Whether the occurrence that was counted last on a row is the one that 62 is related to: the first where the row has a burn mark, the second where it has none. All marks are there before the first occurrence.
 fn is_related(tallies: &Tallies, row: usize) -> bool
     requires { row < 511 }
-    ensures { result ≡ eqb (count_at (old tallies) row) (related_turn (marks_at (old tallies) row)) }
+    ensures { result ≡ eqb (count_at tallies.now row) (related_turn (marks_at tallies.now row)) }
 {
     let count = linear_rows::cell(tallies, row, COUNT);
     if linear_rows::cell(tallies, row, MARKS) == 0 {
@@ -118,7 +118,7 @@ fn is_related(tallies: &Tallies, row: usize) -> bool
 // A counted occurrence, if one was found, on the row that the table notes for its word, and the related word of that row.
 fn use_row(found: Occurrence, nodes: &[u8], base: usize, rows: &Places, tallies: &mut Tallies)
     requires { OnRows nodes.now base rows.now × Spoken nodes.now base found × SpareCounts tallies.old }
-    ensures { (T : OnRows (old nodes) base (old rows)) → Uses-one T found tallies }
+    ensures { (T : OnRows nodes.now base rows.now) → Uses-one T found tallies.old tallies.new }
 {
     let Occurrence::Consumed { ident, .. } = found else {
         return;
@@ -143,9 +143,9 @@ pub fn count_uses(
     tallies: &mut Tallies,
 )
     requires { Using nodes.now base reader.now rows.now × Clear base consumers.old × ((M : ℕ → List ℕ) × Tallied M (λ r. []) tallies.old) }
-    ensures { (T : Using (old nodes) base (old reader) (old rows)) → Clear T.counting.view.upto (new consumers)
-        × ((M : ℕ → List ℕ) → Tallied M (λ r. []) (old tallies)
-        → Tallied M (uses_on (tree_of T.counting.view) T.counting.entry T.row_of base T.counting.view.upto) (new tallies)) }
+    ensures { (T : Using nodes.now base reader.now rows.now) → Clear T.counting.view.upto consumers.new
+        × ((M : ℕ → List ℕ) → Tallied M (λ r. []) tallies.old
+        → Tallied M (uses_on (tree_of T.counting.view) T.counting.entry T.row_of base T.counting.view.upto) tallies.new) }
 {
     let end = base + nodes.len() / 16;
     let mut p = base;

@@ -1,11 +1,11 @@
 // Bytes, numbers and the ends of lines, written into a lent buffer. What does not fit is not written; all of it is counted.
+#![tactic(auto)]
 ghost use Rattle.std.specs.Prelude.{◌≡◌, [], ◌∷◌, ◌+◌, ◌<◌, ◌≤◌, ◌^◌, length, set};
-ghost use Rattle.records.specs.Words.{old, new};
 ghost use Rattle.lines.specs.Line.{digits, rest, Printed};
 
 // Stores b at i, if the buffer has such a byte.
 fn store(out: &mut [u8], i: usize, b: u8)
-    ensures { new out ≡ set (old out) i b }
+    ensures { out.new ≡ set out.old i b }
 {
     if i < out.len() {
         out[i] = b;
@@ -15,7 +15,7 @@ fn store(out: &mut [u8], i: usize, b: u8)
 // One byte.
 fn put(out: &mut [u8], at: usize, b: u8) -> usize
     requires { at < 2 ^ 60 }
-    ensures { Printed (old out) at (b ∷ []) (new out) result × (result ≡ at + 1) }
+    ensures { Printed out.old at (b ∷ []) out.new result × (result ≡ at + 1) }
 {
     store(out, at, b);
     at + 1
@@ -32,7 +32,7 @@ fn digit(d: usize) -> u8
 // A number's digits, at most so many.
 pub fn decimal(n: usize, most: usize, out: &mut [u8], at: usize) -> usize
     requires { at + most < 2 ^ 60 }
-    ensures { Printed (old out) at (digits most n) (new out) result × (result ≤ at + most) }
+    ensures { Printed out.old at (digits most n) out.new result × (result ≤ at + most) }
 {
     if most == 0 {
         return at;
@@ -47,7 +47,7 @@ pub fn decimal(n: usize, most: usize, out: &mut [u8], at: usize) -> usize
 // A space and a number.
 pub fn number(n: usize, out: &mut [u8], at: usize) -> usize
     requires { at < 2 ^ 59 }
-    ensures { Printed (old out) at (32 ∷ digits 20 n) (new out) result × (result ≤ at + 21) }
+    ensures { Printed out.old at (32 ∷ digits 20 n) out.new result × (result ≤ at + 21) }
 {
     let k = put(out, at, b' ');
     decimal(n, 20, out, k)
@@ -56,7 +56,7 @@ pub fn number(n: usize, out: &mut [u8], at: usize) -> usize
 // The rest of a line: one number.
 pub fn rest_one(n: usize, out: &mut [u8], at: usize) -> usize
     requires { at < 2 ^ 58 }
-    ensures { Printed (old out) at (rest (n ∷ [])) (new out) result × (result ≤ at + 22) }
+    ensures { Printed out.old at (rest (n ∷ [])) out.new result × (result ≤ at + 22) }
 {
     let k = number(n, out, at);
     put(out, k, b'\n')
@@ -65,7 +65,7 @@ pub fn rest_one(n: usize, out: &mut [u8], at: usize) -> usize
 // The rest of a line: four numbers.
 pub fn rest_four(a: usize, b: usize, c: usize, d: usize, out: &mut [u8], at: usize) -> usize
     requires { at < 2 ^ 57 }
-    ensures { Printed (old out) at (rest (a ∷ b ∷ c ∷ d ∷ [])) (new out) result × (result ≤ at + 85) }
+    ensures { Printed out.old at (rest (a ∷ b ∷ c ∷ d ∷ [])) out.new result × (result ≤ at + 85) }
 {
     let i = number(a, out, at);
     let j = number(b, out, i);
@@ -76,7 +76,7 @@ pub fn rest_four(a: usize, b: usize, c: usize, d: usize, out: &mut [u8], at: usi
 // Bytes as they stand.
 pub fn text(t: &[u8], out: &mut [u8], at: usize) -> usize
     requires { at + length t.now < 2 ^ 60 }
-    ensures { Printed (old out) at (old t) (new out) result }
+    ensures { Printed out.old at t.now out.new result }
 {
     let n = t.len();
     let mut i = 0;

@@ -5,7 +5,6 @@ use Rattle.rules.specs.Sweep.{keep}
 use Rattle.rules.specs.Tree.{Tree, entry as entries, burns}
 use Rattle.rules.specs.Words.{Q_Asset}
 use Rattle.rules.specs.Vocabulary.{Below}
-use Rattle.records.specs.Words.{Lent, old, new}
 use Rattle.nodes.specs.Shown.{View, In, tree_of}
 use Rattle.nodes.specs.Marks.{Marks}
 use Rattle.names.specs.Found.{Numbered}
@@ -23,8 +22,8 @@ pub record Wrote (o₀ : List ℕ) (k₀ : ℕ) (w : List ℕ) (o : List ℕ) (k
   pub words : o ≡ sets o₀ k₀ w
 
 -- a function that is lent `out`, with `count` words before, adds those that F gives, whichever x the nodes are seen by: at most so many
-abbrev pub AddsWords : {X : Type 0} → (X → List ℕ) → ℕ → Lent (List ℕ) → ℕ → ℕ → Type 0
-AddsWords {X} F most out count r = ((x : X) → Wrote (old out) count (F x) (new out) r) × (r ≤ count + most)
+abbrev pub AddsWords : {X : Type 0} → (X → List ℕ) → ℕ → List ℕ → List ℕ → ℕ → ℕ → Type 0
+AddsWords {X} F most out out' count r = ((x : X) → Wrote out count (F x) out' r) × (r ≤ count + most)
 
 -- What is lent
 

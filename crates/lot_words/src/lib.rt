@@ -1,8 +1,8 @@
 // The words of a lot (E3 of document 02): two for each Burns clause that gives it a mark, then two for each counted occurrence of it.
+#![tactic(auto)]
 ghost use Rattle.std.specs.Prelude.{◌≡◌, List, [], ◌∷◌, ℕ, ◌+◌, ◌-◌, ◌<◌, ◌≤◌, ◌^◌};
 ghost use Rattle.image.specs.Pick.{pick};
 ghost use Rattle.rules.specs.Linear.{is_burned};
-ghost use Rattle.records.specs.Words.{old, new};
 ghost use Rattle.nodes.specs.Shown.{View, In, tree_of};
 ghost use Rattle.nodes.specs.First.{Head};
 ghost use Rattle.places.specs.Places.{Places};
@@ -19,7 +19,7 @@ use places::{Note, Places};
 // An entry behind `count` words, where there is room; it is always counted.
 fn tell(out: &mut [u16], count: usize, node: usize, beside: u16) -> usize
     requires { (count < 2 ^ 60) × (node < 65536) }
-    ensures { AddsWords (λ (_ : Unit {0}). node ∷ beside ∷ []) 2 out count result }
+    ensures { AddsWords (λ (_ : Unit {0}). node ∷ beside ∷ []) 2 out.old out.new count result }
 {
     records::put(out, count, node as u16);
     records::put(out, count + 1, beside);
@@ -29,7 +29,7 @@ fn tell(out: &mut [u16], count: usize, node: usize, beside: u16) -> usize
 // The first Burns clause that gives the mark of the parameter p; 0 where none does.
 fn clause_of(asset: usize, nodes: &[u8], entry: usize, p: usize, clauses: &Places) -> usize
     requires { Clauses nodes.now entry asset clauses.now × In nodes.now 0 p × ((W : View nodes.now 0) → (tree_of W).kind p ≡ 10) }
-    ensures { (result < 2048) × ((T : Clauses (old nodes) entry asset (old clauses)) → result ≡ pick (is_burned (tree_of T.view) entry p) (clause_of (tree_of T.view) entry p) 0) }
+    ensures { (result < 2048) × ((T : Clauses nodes.now entry asset clauses.now) → result ≡ pick (is_burned (tree_of T.view) entry p) (clause_of (tree_of T.view) entry p) 0) }
 {
     let inner = model::inner_of(nodes, p + 2, asset);
     if inner == 0 {
@@ -51,7 +51,7 @@ fn tell_mark(
     count: usize,
 ) -> usize
     requires { Marking nodes.now entry asset clauses.now first.now × In nodes.now 0 p × (0 < row) × (count < 2 ^ 60) }
-    ensures { AddsWords (λ (T : Marking (old nodes) entry asset (old clauses) (old first)). each (clause_words (tree_of T.clausal.view) entry) (burn_at (tree_of T.clausal.view) entry T.row_of (row - 1) p)) 2 out count result }
+    ensures { AddsWords (λ (T : Marking nodes.now entry asset clauses.now first.now). each (clause_words (tree_of T.clausal.view) entry) (burn_at (tree_of T.clausal.view) entry T.row_of (row - 1) p)) 2 out.old out.new count result }
 {
     if nodes::kind(nodes, 0, p) != PARAM {
         return count;
@@ -78,7 +78,7 @@ fn tell_marks(
     out: &mut [u16],
 ) -> usize
     requires { Marking nodes.now entry asset clauses.now first.now × Head nodes.now 0 entry to × (0 < row) }
-    ensures { AddsWords (λ (T : Marking (old nodes) entry asset (old clauses) (old first)). each (clause_words (tree_of T.clausal.view) entry) (burns_on (tree_of T.clausal.view) entry T.row_of (row - 1))) 4096 out 0 result }
+    ensures { AddsWords (λ (T : Marking nodes.now entry asset clauses.now first.now). each (clause_words (tree_of T.clausal.view) entry) (burns_on (tree_of T.clausal.view) entry T.row_of (row - 1))) 4096 out.old out.new 0 result }
 {
     let mut total = 0;
     let mut children = Cursor {
@@ -114,7 +114,7 @@ fn tell_use(
     count: usize,
 ) -> usize
     requires { Spoken nodes.now base found × (count < 2 ^ 60) }
-    ensures { ((W : View (old nodes) base) (F : List ℕ → ℕ) → Places W.image F (old last) → Wrote (old out) count (found_words (tree_of W) F row found) (new out) result) × (result ≤ count + 2) }
+    ensures { ((W : View nodes.now base) (F : List ℕ → ℕ) → Places W.image F last.now → Wrote out.old count (found_words (tree_of W) F row found) out.new result) × (result ≤ count + 2) }
 {
     let Occurrence::Consumed { ident, consumer } = found else {
         return count;
@@ -137,7 +137,7 @@ fn tell_uses(
     count: usize,
 ) -> usize
     requires { Telling nodes.now base reader.now last.now × Clear base consumers.old × (0 < row) × (count < 2 ^ 50) }
-    ensures { AddsWords (λ (T : Telling (old nodes) base (old reader) (old last)). each (use_words (tree_of T.counting.view) T.counting.entry) (uses_on (tree_of T.counting.view) T.counting.entry T.row_of base T.counting.view.upto (row - 1))) 4096 out count result }
+    ensures { AddsWords (λ (T : Telling nodes.now base reader.now last.now). each (use_words (tree_of T.counting.view) T.counting.entry) (uses_on (tree_of T.counting.view) T.counting.entry T.row_of base T.counting.view.upto (row - 1))) 4096 out.old out.new count result }
 {
     let end = base + nodes.len() / 16;
     let mut total = count;
@@ -162,7 +162,7 @@ pub fn tell_row(
     out: &mut [u16],
 ) -> usize
     requires { Rowed nodes.now entry row asset reader.now first.now last.now }
-    ensures { AddsWords (λ (T : Rowed (old nodes) entry row asset (old reader) (old first) (old last)). reasons (tree_of T.view) entry (row_node (tree_of T.view) entry row)) 8192 out 0 result }
+    ensures { AddsWords (λ (T : Rowed nodes.now entry row asset reader.now first.now last.now). reasons (tree_of T.view) entry (row_node (tree_of T.view) entry row)) 8192 out.old out.new 0 result }
 {
     let start = items::first_statement(nodes, 0, entry);
     let mut clauses = [0u16; Image::NAMES];

@@ -6,7 +6,6 @@ use Rattle.rules.specs.Tree.{type, type_holders}
 use Rattle.rules.specs.Vocabulary.{some_below}
 use Rattle.rules.specs.Words.{QTOV, Q_Asset}
 use Rattle.rules.specs.Model.{inner, is_declared_asset, is_known_asset}
-use Rattle.records.specs.Words.{Lent, old, new}
 use Rattle.nodes.specs.Shown.{View, In, tree_of}
 use Rattle.nodes.specs.Marks.{Marks, Turned}
 use Rattle.nodes.specs.Walk.{onward}
@@ -50,9 +49,9 @@ abbrev pub inside : {nodes : List ℕ} {asset : ℕ} → Assets nodes asset → 
 inside A w = some_below (tree_of A.view) type 0 (inner (tree_of A.view) w)
 
 -- a function that is lent a table sets the marks of the words that G names
-abbrev pub Gains : {nodes : List ℕ} {asset : ℕ} → (Assets nodes asset → List ℕ → Bool) → Lent (List Bool) → Type 0
-Gains G known = Turned true (λ A. A.view.image) G (old known) (new known)
+abbrev pub Gains : {nodes : List ℕ} {asset : ℕ} → (Assets nodes asset → List ℕ → Bool) → List Bool → List Bool → Type 0
+Gains G known known' = Turned true (λ A. A.view.image) G known known'
 
 -- a function that is lent a table in which the declared assets are marked marks the other known assets
-abbrev pub Knows : (nodes : Lent (List ℕ)) (qtov asset : ℕ) → Lent (List Bool) → Type 0
-Knows nodes qtov asset known = (K : AssetWords (old nodes) qtov asset) → Marks K.view.image (is_declared_asset (tree_of K.view)) (old known) → Marks K.view.image (is_known_asset (tree_of K.view)) (new known)
+abbrev pub Knows : (nodes : List ℕ) (qtov asset : ℕ) → List Bool → List Bool → Type 0
+Knows nodes qtov asset known known' = (K : AssetWords nodes qtov asset) → Marks K.view.image (is_declared_asset (tree_of K.view)) known → Marks K.view.image (is_known_asset (tree_of K.view)) known'

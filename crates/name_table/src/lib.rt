@@ -1,4 +1,6 @@
 // The names of an image in order: document 01's text forms and name table, refusal 5.
+#![tactic(auto)]
+
 ghost use Rattle.std.specs.Prelude.{◌≡◌, ◌+◌, ◌*◌, ◌<◌, ◌≤◌, true, length, ltb, leb};
 ghost use Rattle.image.specs.Pick.{pick, among};
 ghost use Rattle.name_table.specs.Bytes.{all_words, Alike, four_of};

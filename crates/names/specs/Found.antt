@@ -3,7 +3,6 @@ use Rattle.std.specs.Prelude.{ℕ, ◌+◌, ◌<◌, ◌≤◌, ◌≡◌, Bool,
 use Rattle.image.specs.Text.{less}
 use Rattle.image.specs.Admit.{refusal, name_count}
 use Rattle.rules.specs.Sweep.{either, same}
-use Rattle.records.specs.Words.{Lent, old, new}
 use Rattle.nodes.specs.Shown.{name_text}
 use Rattle.nodes.specs.Marks.{Marks}
 
@@ -20,5 +19,5 @@ pub record Numbered (s w : List ℕ) (r : ℕ) : Type 0 where
   pub none : r ≡ 0 → (x : ℕ) → 1 ≤ x → x ≤ name_count s → name_text s x ≡ w → ⊥
 
 -- a function that is lent a table marks the word of this number, whichever admitted image has the names
-abbrev pub MarksNumber : ℕ → Lent (List Bool) → Type 0
-MarksNumber x marks = (s w : List ℕ) (P : List ℕ → Bool) → refusal s ≡ 0 → Numbered s w x → Marks s P (old marks) → Marks s (λ v. either (P v) (same v w)) (new marks)
+abbrev pub MarksNumber : ℕ → List Bool → List Bool → Type 0
+MarksNumber x marks marks' = (s w : List ℕ) (P : List ℕ → Bool) → refusal s ≡ 0 → Numbered s w x → Marks s P marks → Marks s (λ v. either (P v) (same v w)) marks'

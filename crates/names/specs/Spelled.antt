@@ -4,7 +4,6 @@ use Rattle.rules.specs.Tree.{Tree}
 use Rattle.rules.specs.Vocabulary.{Rec}
 use Rattle.rules.specs.Model.{is_state}
 use Rattle.rules.specs.Words.{QTOV, Q_Asset, Q_Address, deployer, mint, mint_asset, split, send, send_asset, get, contains, set_word, remove, merge, insert, debit, credit, has_word}
-use Rattle.records.specs.Words.{Lent, old}
 use Rattle.records.specs.Records.{Entered, on}
 use Rattle.nodes.specs.Shown.{View, In, tree_of}
 use Rattle.nodes.specs.Marks.{Marks}
@@ -47,5 +46,5 @@ pub record Looked (nodes : List ℕ) (words : Words) (state : List Bool) : Type 
   pub state_marks : Marks view.image (is_state (tree_of view)) state
 
 -- what F says of the tree of these nodes
-abbrev pub looked : (Tree → List Rec) → (nodes : Lent (List ℕ)) (words : Words) (state : Lent (List Bool)) → Looked (old nodes) words (old state) → Entered
+abbrev pub looked : (Tree → List Rec) → (nodes : List ℕ) (words : Words) (state : List Bool) → Looked nodes words state → Entered
 looked F nodes words state T = on F (tree_of T.view)

@@ -1,8 +1,8 @@
 // Words looked up by their bytes, and a mark by word: what "Model" and "Offences" of document 01 say of names that they spell out, such as `QTOV` or `deployer`.
+#![tactic(auto)]
 ghost use Rattle.std.specs.Prelude.{◌≡◌, Bool, List, ℕ, ◌+◌, ◌<◌, ◌≤◌};
 ghost use Rattle.image.specs.Maxima.{max_names};
 ghost use Rattle.rules.specs.Sweep.{same};
-ghost use Rattle.records.specs.Words.{old, new};
 ghost use Rattle.nodes.specs.Shown.{View, Worded, Admitted, tree_of, name_text};
 ghost use Rattle.nodes.specs.Marks.{Marks};
 ghost use Rattle.names.specs.Found.{Parted, Numbered, MarksNumber};
@@ -13,7 +13,7 @@ use nodes::Marks;
 
 // Whether two byte strings are equal: names are equal only when their bytes are.
 pub fn equal(v: &[u8], w: &[u8]) -> bool
-    ensures { result ≡ same (old v) (old w) }
+    ensures { result ≡ same v.now w.now }
 {
     if v.len() != w.len() {
         return false;
@@ -31,7 +31,7 @@ pub fn equal(v: &[u8], w: &[u8]) -> bool
 // The bytes of the name at place k, from 0.
 fn name_at(image: &[u8], head: Image, k: usize) -> &[u8]
     requires { Admitted image.now head × (k < head.names) }
-    ensures { result.now ≡ name_text (old image) (k + 1) }
+    ensures { result.now ≡ name_text image.now (k + 1) }
 {
     let table = head.names_at();
     let texts = head.text_at();
@@ -44,7 +44,7 @@ fn name_at(image: &[u8], head: Image, k: usize) -> &[u8]
 // How many names are before a word: names ascend by their bytes, so a binary search.
 fn count_before(image: &[u8], head: Image, name_text: &[u8]) -> usize
     requires { Admitted image.now head }
-    ensures { Parted (old image) (old name_text) result }
+    ensures { Parted image.now name_text.now result }
 {
     let mut low = 0;
     let mut high = head.names;
@@ -62,7 +62,7 @@ fn count_before(image: &[u8], head: Image, name_text: &[u8]) -> usize
 // The number of a word; 0 where no name of the image has these bytes.
 pub fn number_of(image: &[u8], head: Image, name_text: &[u8]) -> usize
     requires { Admitted image.now head }
-    ensures { Numbered (old image) (old name_text) result }
+    ensures { Numbered image.now name_text.now result }
 {
     let k = count_before(image, head, name_text);
     if head.names <= k {
@@ -77,7 +77,7 @@ pub fn number_of(image: &[u8], head: Image, name_text: &[u8]) -> usize
 // The mark of the word of this number; none where it is 0, since then no name of the image is this word.
 pub fn mark_number(number: usize, marks: &mut Marks)
     requires { number ≤ max_names }
-    ensures { MarksNumber number marks }
+    ensures { MarksNumber number marks.old marks.new }
 {
     if 0 < number {
         marks[number - 1] = true;
@@ -85,7 +85,7 @@ pub fn mark_number(number: usize, marks: &mut Marks)
 }
 
 // The words that a Call may call (34 of document 01), by their numbers; 0 where the image has no such name.
-#[derive(Drop)]
+#[derive(Clone, Copy)]
 pub struct Builtins {
     pub send: usize,
     pub send_asset: usize,
@@ -94,7 +94,7 @@ pub struct Builtins {
 }
 
 // The words that a Call may call of a base (34).
-#[derive(Drop)]
+#[derive(Clone, Copy)]
 pub struct Methods {
     pub get: usize,
     pub contains: usize,
@@ -108,7 +108,7 @@ pub struct Methods {
 }
 
 // All the words that the rules mention: these, `has`, `deployer`, `Q_Asset`, `Q_Address` and `QTOV`.
-#[derive(Drop)]
+#[derive(Clone, Copy)]
 pub struct Words {
     pub builtins: Builtins,
     pub methods: Methods,
@@ -121,7 +121,7 @@ pub struct Words {
 
 fn find_builtins(image: &[u8], head: Image) -> Builtins
     requires { Admitted image.now head }
-    ensures { BuiltinsOf (old image) result }
+    ensures { BuiltinsOf image.now result }
 {
     let send = number_of(image, head, b"send");
     let send_asset = number_of(image, head, b"send_asset");
@@ -137,7 +137,7 @@ fn find_builtins(image: &[u8], head: Image) -> Builtins
 
 fn find_methods(image: &[u8], head: Image) -> Methods
     requires { Admitted image.now head }
-    ensures { MethodsOf (old image) result }
+    ensures { MethodsOf image.now result }
 {
     let get = number_of(image, head, b"get");
     let contains = number_of(image, head, b"contains");
@@ -164,7 +164,7 @@ fn find_methods(image: &[u8], head: Image) -> Methods
 // The words that the rules mention, each looked up once for all passes.
 pub fn find_words(image: &[u8], head: Image) -> Words
     requires { Admitted image.now head }
-    ensures { WordsOf (old image) result }
+    ensures { WordsOf image.now result }
 {
     let builtins = find_builtins(image, head);
     let methods = find_methods(image, head);
@@ -187,7 +187,7 @@ pub fn find_words(image: &[u8], head: Image) -> Words
 // Whether the word of node p has this number.
 pub fn is_word(number: usize, nodes: &[u8], base: usize, p: usize) -> bool
     requires { Worded nodes.now base p }
-    ensures { (W : View (old nodes) base) (w : List ℕ) → Numbered W.image w number → result ≡ same ((tree_of W).text p) w }
+    ensures { (W : View nodes.now base) (w : List ℕ) → Numbered W.image w number → result ≡ same ((tree_of W).text p) w }
 {
     nodes::name(nodes, base, p) == number
 }

@@ -3,7 +3,6 @@ use Rattle.std.specs.Prelude.{ℕ, Bool, List}
 use Rattle.rules.specs.Tree.{Tree}
 use Rattle.rules.specs.Vocabulary.{Rec}
 use Rattle.rules.specs.Model.{is_state}
-use Rattle.records.specs.Words.{Lent, old}
 use Rattle.records.specs.Records.{Entered, on}
 use Rattle.nodes.specs.Shown.{View, tree_of}
 use Rattle.nodes.specs.Marks.{Marks}
@@ -13,5 +12,5 @@ pub record State (nodes : List ℕ) (base : ℕ) (state : List Bool) : Type 0 wh
   pub state_marks : Marks view.image (is_state (tree_of view)) state
 
 -- what F says of the tree of these nodes
-abbrev pub seen : (Tree → List Rec) → (nodes : Lent (List ℕ)) (base : ℕ) (state : Lent (List Bool)) → State (old nodes) base (old state) → Entered
+abbrev pub seen : (Tree → List Rec) → (nodes : List ℕ) (base : ℕ) (state : List Bool) → State nodes base state → Entered
 seen F nodes base state T = on F (tree_of T.view)

@@ -1,10 +1,11 @@
 // Nodes read from a part of the node area whose first node is number `base`; a mark for each name; the walk down an expression.
+#![tactic(auto)]
+
 ghost use Rattle.std.specs.Prelude.{◌≡◌, Bool, List, [], ◌∷◌, ℕ, ◌≤◌};
 ghost use Rattle.image.specs.Admit.{node_count};
 ghost use Rattle.rules.specs.Sweep.{also, has, same, has_word};
 ghost use Rattle.rules.specs.Tree.{peels, state, type_holders};
 ghost use Rattle.rules.specs.Vocabulary.{some_below, named, down, is_ident, is_field};
-ghost use Rattle.records.specs.Words.{old};
 ghost use Rattle.nodes.specs.Shown.{View, In, Shown, Worded, Admitted, tree_of, number};
 ghost use Rattle.nodes.specs.Marks.{Marks, Turns};
 ghost use Rattle.nodes.specs.Past.{taken_off};
@@ -71,7 +72,7 @@ pub const CALL: usize = 43;
 // The nodes of an admitted image.
 pub fn area(image: &[u8], head: Image) -> &[u8]
     requires { Admitted image.now head }
-    ensures { Shown (old image) result.now 0 (node_count (old image)) }
+    ensures { Shown image.now result.now 0 (node_count image.now) }
 {
     let end = head.names_at();
     &image[Image::HEADER..end]
@@ -79,27 +80,27 @@ pub fn area(image: &[u8], head: Image) -> &[u8]
 
 pub fn kind(nodes: &[u8], base: usize, p: usize) -> usize
     requires { In nodes.now base p }
-    ensures { (W : View (old nodes) base) → result ≡ (tree_of W).kind p }
+    ensures { (W : View nodes.now base) → result ≡ (tree_of W).kind p }
 {
     image::kind(nodes, p - base)
 }
 
 pub fn end(nodes: &[u8], base: usize, p: usize) -> usize
     requires { In nodes.now base p }
-    ensures { (W : View (old nodes) base) → result ≡ (tree_of W).end p }
+    ensures { (W : View nodes.now base) → result ≡ (tree_of W).end p }
 {
     image::end(nodes, p - base)
 }
 
 pub fn name(nodes: &[u8], base: usize, p: usize) -> usize
     requires { In nodes.now base p }
-    ensures { (W : View (old nodes) base) → result ≡ number W.image p }
+    ensures { (W : View nodes.now base) → result ≡ number W.image p }
 {
     image::name(nodes, p - base)
 }
 
 // A position among the children of a node, in a part of the node area whose first node is number `base`: at the next child, or at the end of those that are walked over.
-#[derive(Drop)]
+#[derive(Clone, Copy)]
 pub struct Cursor {
     pub base: usize,
     pub at: usize,
@@ -107,7 +108,7 @@ pub struct Cursor {
 }
 
 // One step: the child that the cursor was at, and the cursor moved past it.
-#[derive(Drop)]
+#[derive(Clone, Copy)]
 pub struct Step {
     pub child: usize,
     pub rest: Cursor,
@@ -117,7 +118,7 @@ impl Cursor {
     // Past the child at the cursor: the next one begins at its end. This is the one place where a walk goes from child to child.
     pub fn step(self, nodes: &[u8]) -> Step
         requires { In nodes.now self.base self.at }
-        ensures { Stepped (old nodes) self result }
+        ensures { Stepped nodes.now self result }
     {
         let base = self.base;
         let child = self.at;
@@ -133,7 +134,7 @@ impl Cursor {
 // Whether the word of node p is marked.
 pub fn is_marked(marks: &Marks, nodes: &[u8], base: usize, p: usize) -> bool
     requires { Worded nodes.now base p }
-    ensures { (W : View (old nodes) base) (P : List ℕ → Bool) → Marks W.image P (old marks) → result ≡ P ((tree_of W).text p) }
+    ensures { (W : View nodes.now base) (P : List ℕ → Bool) → Marks W.image P marks.now → result ≡ P ((tree_of W).text p) }
 {
     let x = name(nodes, base, p);
     marks[x - 1]
@@ -142,7 +143,7 @@ pub fn is_marked(marks: &Marks, nodes: &[u8], base: usize, p: usize) -> bool
 // Sets the mark of the word of node p, or takes it off.
 pub fn mark(marks: &mut Marks, nodes: &[u8], base: usize, p: usize, on: bool)
     requires { Worded nodes.now base p }
-    ensures { Turns on (λ (W : View (old nodes) base). same ((tree_of W).text p)) marks }
+    ensures { Turns on (λ (W : View nodes.now base). same ((tree_of W).text p)) marks.old marks.new }
 {
     let x = name(nodes, base, p);
     marks[x - 1] = on;
@@ -151,7 +152,7 @@ pub fn mark(marks: &mut Marks, nodes: &[u8], base: usize, p: usize, on: bool)
 // The mark of the Name of a node of this kind is set, or taken off.
 pub fn mark_name(sort: usize, nodes: &[u8], p: usize, on: bool, marks: &mut Marks)
     requires { NameFirst sort × View nodes.now 0 × In nodes.now 0 p }
-    ensures { Turns on (λ (W : View (old nodes) 0) w. also (has ((tree_of W).kind p) (sort ∷ [])) (named (tree_of W) w) p) marks }
+    ensures { Turns on (λ (W : View nodes.now 0) w. also (has ((tree_of W).kind p) (sort ∷ [])) (named (tree_of W) w) p) marks.old marks.new }
 {
     if kind(nodes, 0, p) == sort {
         mark(marks, nodes, 0, p + 1, on);
@@ -161,7 +162,7 @@ pub fn mark_name(sort: usize, nodes: &[u8], p: usize, on: bool, marks: &mut Mark
 // The marks of the Names of the parts of an entry of this kind are set, or taken off, by a walk over its children before `to`, its first statement.
 pub fn mark_parts(sort: usize, nodes: &[u8], entry: usize, to: usize, on: bool, marks: &mut Marks)
     requires { HeadPart sort × Head nodes.now 0 entry to }
-    ensures { Turns on (λ (W : View (old nodes) 0) w. some_below (tree_of W) (sort ∷ []) entry (named (tree_of W) w)) marks }
+    ensures { Turns on (λ (W : View nodes.now 0) w. some_below (tree_of W) (sort ∷ []) entry (named (tree_of W) w)) marks.old marks.new }
 {
     let mut children = Cursor {
         base: 0,
@@ -175,7 +176,7 @@ pub fn mark_parts(sort: usize, nodes: &[u8], entry: usize, to: usize, on: bool, 
 }
 
 // What is taken off on the way down an expression: Checked and Wrapping, Fields, or all three.
-#[derive(Drop)]
+#[derive(Clone, Copy)]
 pub enum Past {
     Peels,
     Fields,
@@ -211,7 +212,7 @@ fn is_past(past: Past, k: usize) -> bool
 // Down from x, past what is taken off, to the first node that is not; the end of x if there is none.
 pub fn down(past: Past, nodes: &[u8], base: usize, x: usize) -> usize
     requires { View nodes.now base × In nodes.now base x }
-    ensures { (x ≤ result) × ((W : View (old nodes) base) → result ≡ down (tree_of W) (taken_off past) x) }
+    ensures { (x ≤ result) × ((W : View nodes.now base) → result ≡ down (tree_of W) (taken_off past) x) }
 {
     let to = end(nodes, base, x);
     let mut r = x;
@@ -227,7 +228,7 @@ pub fn down(past: Past, nodes: &[u8], base: usize, x: usize) -> usize
 // The next node of a walk over the items and the fields of a contract: into a State, past any other node.
 pub fn next_declaration(nodes: &[u8], base: usize, p: usize) -> usize
     requires { In nodes.now base p }
-    ensures { (W : View (old nodes) base) → result ≡ onward (tree_of W) state p }
+    ensures { (W : View nodes.now base) → result ≡ onward (tree_of W) state p }
 {
     if kind(nodes, base, p) == STATE {
         return p + 1;
@@ -252,7 +253,7 @@ fn is_type_holder(k: usize) -> bool
 // The next node of a walk over the types of a contract: into what may hold one, past any other node.
 pub fn next_type(nodes: &[u8], base: usize, p: usize) -> usize
     requires { In nodes.now base p }
-    ensures { (W : View (old nodes) base) → result ≡ onward (tree_of W) type_holders p }
+    ensures { (W : View nodes.now base) → result ≡ onward (tree_of W) type_holders p }
 {
     if is_type_holder(kind(nodes, base, p)) {
         return p + 1;
@@ -263,7 +264,7 @@ pub fn next_type(nodes: &[u8], base: usize, p: usize) -> usize
 // Whether x is an Ident of a word that is marked.
 pub fn is_ident(nodes: &[u8], base: usize, x: usize, marks: &Marks) -> bool
     requires { View nodes.now base × In nodes.now base x }
-    ensures { (W : View (old nodes) base) (ws : List (List ℕ)) → Marks W.image (λ w. has_word w ws) (old marks) → result ≡ is_ident (tree_of W) ws x }
+    ensures { (W : View nodes.now base) (ws : List (List ℕ)) → Marks W.image (λ w. has_word w ws) marks.now → result ≡ is_ident (tree_of W) ws x }
 {
     if kind(nodes, base, x) != IDENT {
         return false;
@@ -274,7 +275,7 @@ pub fn is_ident(nodes: &[u8], base: usize, x: usize, marks: &Marks) -> bool
 // Whether x is a Field of a word that is marked.
 pub fn is_field(nodes: &[u8], base: usize, x: usize, marks: &Marks) -> bool
     requires { View nodes.now base × In nodes.now base x }
-    ensures { (W : View (old nodes) base) (ws : List (List ℕ)) → Marks W.image (λ w. has_word w ws) (old marks) → result ≡ is_field (tree_of W) ws x }
+    ensures { (W : View nodes.now base) (ws : List (List ℕ)) → Marks W.image (λ w. has_word w ws) marks.now → result ≡ is_field (tree_of W) ws x }
 {
     if kind(nodes, base, x) != FIELD {
         return false;

@@ -1,4 +1,5 @@
 // The three passes on an admitted image: the records of each, the verdict by the first of them, the records of all in one list.
+#![tactic(auto)]
 ghost use Rattle.std.specs.Prelude.{◌≡◌, List, ℕ, ◌+◌, ◌*◌, ◌≤◌, ◌^◌, length, replicate};
 ghost use Rattle.rules.specs.Vocabulary.{Rec};
 ghost use Rattle.rules.specs.Tree.{tree};
@@ -6,7 +7,6 @@ ghost use Rattle.rules.specs.Resolve.{resolve};
 ghost use Rattle.rules.specs.Access.{access};
 ghost use Rattle.rules.specs.Linear.{linear};
 ghost use Rattle.rules.specs.All.{offences, entry_of};
-ghost use Rattle.records.specs.Words.{old, new};
 ghost use Rattle.records.specs.Records.{Laid, Adds, on};
 ghost use Rattle.nodes.specs.Shown.{Admitted};
 ghost use Rattle.names.specs.Spelled.{Looked, looked};
@@ -18,7 +18,7 @@ use names::Words;
 use nodes::Marks;
 
 // What a pass answers: the image's refusal, acceptance, or the code, the place and its two span words.
-#[derive(Drop)]
+#[derive(Clone, Copy)]
 pub enum Verdict {
     Image(usize),
     Accepted,
@@ -31,7 +31,7 @@ pub enum Verdict {
 }
 
 // The passes, in the order that they run in.
-#[derive(Drop)]
+#[derive(Clone, Copy)]
 pub enum Pass {
     Resolve,
     Access,
@@ -41,7 +41,7 @@ pub enum Pass {
 // The records of a pass, from the buffer's start: what fits is written, all is counted. Words and state names were looked up before.
 fn list_with(pass: Pass, nodes: &[u8], words: Words, state: &Marks, out: &mut [u16]) -> usize
     requires { Looked nodes.now words state.now }
-    ensures { Adds (looked (records_of pass) nodes words state) (2 ^ 38) out 0 result }
+    ensures { Adds (looked (records_of pass) nodes.now words state.now) (2 ^ 38) out.old out.new 0 result }
 {
     match pass {
         Pass::Resolve => resolve::list(nodes, words, state, out),
@@ -53,7 +53,7 @@ fn list_with(pass: Pass, nodes: &[u8], words: Words, state: &Marks, out: &mut [u
 // The same for an admitted image, with look-ups of its own.
 pub fn list_of(pass: Pass, image: &[u8], head: Image, out: &mut [u16]) -> usize
     requires { Admitted image.now head }
-    ensures { Adds (λ (_ : Unit {0}). on (records_of pass) (tree (old image))) (2 ^ 38) out 0 result }
+    ensures { Adds (λ (_ : Unit {0}). on (records_of pass) (tree image.now)) (2 ^ 38) out.old out.new 0 result }
 {
     let nodes = nodes::area(image, head);
     let words = names::find_words(image, head);
@@ -71,7 +71,7 @@ fn wide(w: u16) -> usize
 // The verdict, from the first record of a list that was written into four words.
 fn judge(image: &[u8], head: Image, out: &[u16], count: usize) -> Verdict
     requires { Admitted image.now head × (length out.now ≡ 4) }
-    ensures { (e : ℕ → ℕ) (l : List Rec) → Laid e (replicate 4 0) 0 l (old out) count → result ≡ verdict_by (old image) l }
+    ensures { (e : ℕ → ℕ) (l : List Rec) → Laid e (replicate 4 0) 0 l out.now count → result ≡ verdict_by image.now l }
 {
     if count == 0 {
         return Verdict::Accepted;
@@ -99,7 +99,7 @@ fn first_with(
     state: &Marks,
 ) -> Verdict
     requires { LookedUp image.now head nodes.now words state.now }
-    ensures { Judged (records_of pass) (old image) result }
+    ensures { Judged (records_of pass) image.now result }
 {
     let mut out = [0u16; 4];
     let count = list_with(pass, nodes, words, state, &mut out);
@@ -109,7 +109,7 @@ fn first_with(
 // The verdict of a pass on an admitted image.
 pub fn first_of(pass: Pass, image: &[u8], head: Image) -> Verdict
     requires { Admitted image.now head }
-    ensures { Judged (records_of pass) (old image) result }
+    ensures { Judged (records_of pass) image.now result }
 {
     let mut out = [0u16; 4];
     let count = list_of(pass, image, head, &mut out);
@@ -117,7 +117,7 @@ pub fn first_of(pass: Pass, image: &[u8], head: Image) -> Verdict
 }
 
 // The verdicts of all passes.
-#[derive(Drop)]
+#[derive(Clone, Copy)]
 pub struct Answers {
     pub resolve: Verdict,
     pub access: Verdict,
@@ -127,7 +127,7 @@ pub struct Answers {
 // All verdicts on an admitted image, with words and state names looked up once.
 pub fn answer_all(image: &[u8], head: Image) -> Answers
     requires { Admitted image.now head }
-    ensures { Judged resolve (old image) result.resolve × Judged access (old image) result.access × Judged linear (old image) result.linear }
+    ensures { Judged resolve image.now result.resolve × Judged access image.now result.access × Judged linear image.now result.linear }
 {
     let nodes = nodes::area(image, head);
     let words = names::find_words(image, head);
@@ -146,7 +146,7 @@ pub fn answer_all(image: &[u8], head: Image) -> Answers
 // How many records a pass has.
 fn count(pass: Pass, image: &[u8], head: Image) -> usize
     requires { Admitted image.now head }
-    ensures { (result ≡ length (records_of pass (tree (old image)))) × (result ≤ 2 ^ 38) }
+    ensures { (result ≡ length (records_of pass (tree image.now))) × (result ≤ 2 ^ 38) }
 {
     let mut none = [0u16; 0];
     list_of(pass, image, head, &mut none)
@@ -155,7 +155,7 @@ fn count(pass: Pass, image: &[u8], head: Image) -> usize
 // How many records all passes have.
 pub fn count_all(image: &[u8], head: Image) -> usize
     requires { Admitted image.now head }
-    ensures { (result ≡ length (offences (tree (old image)))) × (result ≤ 2 ^ 40) }
+    ensures { (result ≡ length (offences (tree image.now))) × (result ≤ 2 ^ 40) }
 {
     let resolve = count(Pass::Resolve, image, head);
     let access = count(Pass::Access, image, head);
@@ -166,7 +166,7 @@ pub fn count_all(image: &[u8], head: Image) -> usize
 // The records of a pass after `count` others, written into the rest of the buffer from where those stop.
 fn list_after(pass: Pass, image: &[u8], head: Image, words: &mut [u16], count: usize) -> usize
     requires { Admitted image.now head × (4 * (count + length (records_of pass (tree image.now))) ≤ length words.old) }
-    ensures { Adds (λ (_ : Unit {0}). on (records_of pass) (tree (old image))) (2 ^ 38) words count result }
+    ensures { Adds (λ (_ : Unit {0}). on (records_of pass) (tree image.now)) (2 ^ 38) words.old words.new count result }
 {
     let start = 4 * count;
     let end = words.len();
@@ -177,7 +177,7 @@ fn list_after(pass: Pass, image: &[u8], head: Image, words: &mut [u16], count: u
 // The records of all passes, each from where the last one stopped.
 pub fn fill(image: &[u8], head: Image, words: &mut [u16]) -> usize
     requires { Admitted image.now head × (4 * length (offences (tree image.now)) ≤ length words.old) }
-    ensures { Laid (entry_of (tree (old image))) (old words) 0 (offences (tree (old image))) (new words) result }
+    ensures { Laid (entry_of (tree image.now)) words.old 0 (offences (tree image.now)) words.new result }
 {
     let resolve = list_after(Pass::Resolve, image, head, words, 0);
     let access = list_after(Pass::Access, image, head, words, resolve);

@@ -4,7 +4,6 @@ use Rattle.image.specs.Pick.{pick}
 use Rattle.rules.specs.Sweep.{also, has}
 use Rattle.rules.specs.Tree.{Tree}
 use Rattle.rules.specs.Vocabulary.{named}
-use Rattle.records.specs.Words.{Lent, old, new}
 use Rattle.nodes.specs.Shown.{View}
 use Rattle.nodes.specs.Table.{Table, Changed, folded}
 use Rattle.places.specs.declared.Note.{Note}
@@ -45,5 +44,5 @@ last_of t ks a w = notes_below Last t ks a w 0
 abbrev pub Noted : {X : Type 0} → (X → List ℕ) → (X → List ℕ → ℕ → ℕ) → List ℕ → List ℕ → Type 0
 Noted image G r r' = Changed 0 image G r r'
 
-abbrev pub Notes : {part : List ℕ} {b : ℕ} → (View part b → List ℕ → ℕ → ℕ) → Lent (List ℕ) → Type 0
-Notes G places = Noted (λ W. W.image) G (old places) (new places)
+abbrev pub Notes : {part : List ℕ} {b : ℕ} → (View part b → List ℕ → ℕ → ℕ) → List ℕ → List ℕ → Type 0
+Notes G places places' = Noted (λ W. W.image) G places places'

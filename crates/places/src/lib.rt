@@ -1,6 +1,6 @@
 // One node for each name: the first, or the last, of a kind below a node that has it as its Name ("met before", "no such Let in an earlier statement", "the event's last declaration" of document 01).
+#![tactic(auto)]
 ghost use Rattle.std.specs.Prelude.{◌≡◌, List, [], ◌∷◌, ℕ, ◌+◌, ◌-◌, ◌<◌};
-ghost use Rattle.records.specs.Words.{old, new};
 ghost use Rattle.nodes.specs.Shown.{View, In, Worded, tree_of};
 ghost use Rattle.nodes.specs.First.{NameFirst, Declaring, NamedPart, HeadPart, Head, Until};
 ghost use Rattle.places.specs.Places.{Places, Notes, taken, noting, notes_below, is_named};
@@ -12,7 +12,7 @@ use nodes::Cursor;
 pub type Places = [u16; Image::NAMES];
 
 // What is noted for a name at a node that has it: that node, if none is noted yet; that node; none.
-#[derive(Drop)]
+#[derive(Clone, Copy)]
 pub enum Note {
     First,
     Last,
@@ -28,7 +28,7 @@ fn wide(x: u16) -> usize
 // The node that is noted for the word of node p; 0 where none is.
 pub fn at(places: &Places, nodes: &[u8], base: usize, p: usize) -> usize
     requires { Worded nodes.now base p }
-    ensures { (result < 65536) × ((W : View (old nodes) base) (F : List ℕ → ℕ) → Places W.image F (old places) → result ≡ F ((tree_of W).text p)) }
+    ensures { (result < 65536) × ((W : View nodes.now base) (F : List ℕ → ℕ) → Places W.image F places.now → result ≡ F ((tree_of W).text p)) }
 {
     let x = nodes::name(nodes, base, p);
     wide(places[x - 1])
@@ -52,7 +52,7 @@ pub fn taken(note: Note, was: u16, p: u16) -> u16
 // A node of this kind is noted for its Name.
 fn note_node(note: Note, kind: usize, nodes: &[u8], p: usize, places: &mut Places)
     requires { NameFirst kind × View nodes.now 0 × In nodes.now 0 p }
-    ensures { Notes (λ (W : View (old nodes) 0) w v. noting note v (is_named (tree_of W) (kind ∷ []) w p) p) places }
+    ensures { Notes (λ (W : View nodes.now 0) w v. noting note v (is_named (tree_of W) (kind ∷ []) w p) p) places.old places.new }
 {
     if nodes::kind(nodes, 0, p) == kind {
         let i = nodes::name(nodes, 0, p + 1) - 1;
@@ -63,7 +63,7 @@ fn note_node(note: Note, kind: usize, nodes: &[u8], p: usize, places: &mut Place
 // The fields or the events of a contract are noted, by a walk over its items and fields.
 pub fn note_names(note: Note, kind: usize, nodes: &[u8], places: &mut Places)
     requires { Declaring kind × View nodes.now 0 × In nodes.now 0 0 }
-    ensures { Notes (λ (W : View (old nodes) 0). notes_below note (tree_of W) (kind ∷ []) 0) places }
+    ensures { Notes (λ (W : View nodes.now 0). notes_below note (tree_of W) (kind ∷ []) 0) places.old places.new }
 {
     let end = nodes::end(nodes, 0, 0);
     let mut p = 1;
@@ -76,7 +76,7 @@ pub fn note_names(note: Note, kind: usize, nodes: &[u8], places: &mut Places)
 // The parts of this kind of an entry are noted, by a walk over its children up to `to`, behind which none stands.
 fn note_until(note: Note, kind: usize, nodes: &[u8], entry: usize, to: usize, places: &mut Places)
     requires { NamedPart kind × Until nodes.now 0 entry to kind }
-    ensures { Notes (λ (W : View (old nodes) 0). notes_below note (tree_of W) (kind ∷ []) entry) places }
+    ensures { Notes (λ (W : View nodes.now 0). notes_below note (tree_of W) (kind ∷ []) entry) places.old places.new }
 {
     let mut children = Cursor {
         base: 0,
@@ -92,7 +92,7 @@ fn note_until(note: Note, kind: usize, nodes: &[u8], entry: usize, to: usize, pl
 // The parameters or the Lets of an entry are noted.
 pub fn note_parts(note: Note, kind: usize, nodes: &[u8], entry: usize, places: &mut Places)
     requires { NamedPart kind × View nodes.now 0 × In nodes.now 0 entry × (0 < entry) }
-    ensures { Notes (λ (W : View (old nodes) 0). notes_below note (tree_of W) (kind ∷ []) entry) places }
+    ensures { Notes (λ (W : View nodes.now 0). notes_below note (tree_of W) (kind ∷ []) entry) places.old places.new }
 {
     let end = nodes::end(nodes, 0, entry);
     note_until(note, kind, nodes, entry, end, places);
@@ -108,7 +108,7 @@ pub fn note_heads(
     places: &mut Places,
 )
     requires { HeadPart kind × Head nodes.now 0 entry to }
-    ensures { Notes (λ (W : View (old nodes) 0). notes_below note (tree_of W) (kind ∷ []) entry) places }
+    ensures { Notes (λ (W : View nodes.now 0). notes_below note (tree_of W) (kind ∷ []) entry) places.old places.new }
 {
     note_until(note, kind, nodes, entry, to, places);
 }

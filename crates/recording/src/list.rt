@@ -1,6 +1,5 @@
 // The records of a recorded list: the part of each pass, and a part against the words of an answer.
 ghost use Rattle.std.specs.Prelude.{◌≡◌, ◌+◌, ◌*◌, ◌≤◌, length};
-ghost use Rattle.records.specs.Words.{old};
 ghost use Rattle.recording.specs.Told.{numbers, difference, record_words, record_bytes, record_at, record_in, Within};
 ghost use Rattle.recording.specs.Told.{other_records, list_differences, run_below, parts_of};
 
@@ -18,14 +17,14 @@ pub const RECORD_WORDS: usize = 4;
 pub const RECORD_BYTES: usize = 2 * RECORD_WORDS;
 
 // Some of the recorded records: where they start, and how many.
-#[derive(Drop)]
+#[derive(Clone, Copy)]
 pub struct Part {
     pub at: usize,
     pub count: usize,
 }
 
 // The parts of the three passes.
-#[derive(Drop)]
+#[derive(Clone, Copy)]
 pub struct Parts {
     pub resolve: Part,
     pub access: Part,
@@ -47,7 +46,7 @@ fn with_record(head: Numbers, code: usize, place: usize, related: usize, entry: 
 
 fn recorded_with(file: &[u8], at: usize, head: Numbers) -> Numbers
     requires { at + record_bytes ≤ length file.now }
-    ensures { result ≡ record_at (old file) at head }
+    ensures { result ≡ record_at file.now at head }
 {
     let code = read::u16_at(file, at);
     let place = read::u16_at(file, at + 2);
@@ -58,7 +57,7 @@ fn recorded_with(file: &[u8], at: usize, head: Numbers) -> Numbers
 
 fn answered_with(words: &[u16], k: usize, head: Numbers) -> Numbers
     requires { k + record_words ≤ length words.now }
-    ensures { result ≡ record_in (old words) k head }
+    ensures { result ≡ record_in words.now k head }
 {
     let code = read::wide_u16(words[k]);
     let place = read::wide_u16(words[k + 1]);
@@ -78,7 +77,7 @@ fn record_differs(
     head: Numbers,
 ) -> usize
     requires { (at + record_bytes ≤ length file.now) × (k + record_words ≤ length words.now) }
-    ensures { (result ≡ difference (record_at (old file) at head) (record_in (old words) k head)) × (result ≤ 1) }
+    ensures { (result ≡ difference (record_at file.now at head) (record_in words.now k head)) × (result ≤ 1) }
 {
     let recorded = recorded_with(file, at, head);
     let answered = answered_with(words, k, head);
@@ -88,7 +87,7 @@ fn record_differs(
 // How many of the recorded records, as many as `head` says, are not the answer's.
 fn others(case: Case, asked: &[u8], file: &[u8], at: usize, words: &[u16], head: Numbers) -> usize
     requires { (at + record_bytes * head.1 ≤ length file.now) × (record_words * head.1 ≤ length words.now) }
-    ensures { (result ≡ other_records (old file) at head (old words) head.1) × (result ≤ head.1) }
+    ensures { (result ≡ other_records file.now at head words.now head.1) × (result ≤ head.1) }
 {
     let count = head.1;
     let mut differ = 0;
@@ -111,7 +110,7 @@ fn others(case: Case, asked: &[u8], file: &[u8], at: usize, words: &[u16], head:
 // How many records the list starts with whose codes are below `code`.
 fn run_below(file: &[u8], at: usize, count: usize, code: usize) -> usize
     requires { at + record_bytes * count ≤ length file.now }
-    ensures { (result ≡ run_below (old file) at code count) × (result ≤ count) }
+    ensures { (result ≡ run_below file.now at code count) × (result ≤ count) }
 {
     let mut i = 0;
     while i < count {
@@ -126,8 +125,8 @@ fn run_below(file: &[u8], at: usize, count: usize, code: usize) -> usize
 // Each pass's part of a list.
 pub fn parts_of(file: &[u8], at: usize, count: usize) -> Parts
     requires { at + record_bytes * count ≤ length file.now }
-    ensures value { result ≡ parts_of (old file) at count }
-    ensures within { Within (old file) result.resolve × Within (old file) result.access × Within (old file) result.linear }
+    ensures value { result ≡ parts_of file.now at count }
+    ensures within { Within file.now result.resolve × Within file.now result.access × Within file.now result.linear }
 {
     let n = run_below(file, at, count, ACCESS);
     let then = at + RECORD_BYTES * n;
@@ -153,7 +152,7 @@ pub fn records_differ(
     words: &[u16],
 ) -> usize
     requires { Within file.now part × (record_words * part.count ≤ length words.now) }
-    ensures { (result ≡ list_differences case.refusal (old file) part answer (old words)) × (result ≤ part.count + 1) }
+    ensures { (result ≡ list_differences case.refusal file.now part answer words.now) × (result ≤ part.count + 1) }
 {
     let head = Numbers(case.refusal, part.count, 0, 0, 0, 0);
     let first = tell::differs(case, asked, head, answer);

@@ -1,7 +1,6 @@
 // Numbers of the recorded answers, little-endian.
 ghost use Rattle.std.specs.Prelude.{◌≡◌, ◌+◌, ◌<◌, ◌≤◌, length, get_or};
 ghost use Rattle.image.specs.Node.{half, full_word};
-ghost use Rattle.records.specs.Words.{old};
 ghost use Rattle.recording.specs.Told.{verdict_at};
 
 use crate::tell::Numbers;
@@ -26,21 +25,21 @@ pub fn wide_u32(w: u32) -> usize
 
 pub fn u8_at(s: &[u8], at: usize) -> usize
     requires { at < length s.now }
-    ensures { (result ≡ get_or (old s) at 0) × (result < 256) }
+    ensures { (result ≡ get_or s.now at 0) × (result < 256) }
 {
     wide(s[at])
 }
 
 pub fn u16_at(s: &[u8], at: usize) -> usize
     requires { at + 2 ≤ length s.now }
-    ensures { (result ≡ half (old s) at) × (result < 65536) }
+    ensures { (result ≡ half s.now at) × (result < 65536) }
 {
     u8_at(s, at) + 256 * u8_at(s, at + 1)
 }
 
 pub fn u32_at(s: &[u8], at: usize) -> usize
     requires { at + 4 ≤ length s.now }
-    ensures { (result ≡ full_word (old s) at) × (result < 4294967296) }
+    ensures { (result ≡ full_word s.now at) × (result < 4294967296) }
 {
     u16_at(s, at) + 65536 * u16_at(s, at + 2)
 }
@@ -48,7 +47,7 @@ pub fn u32_at(s: &[u8], at: usize) -> usize
 // The recorded verdict of a pass.
 pub fn verdict_at(s: &[u8], at: usize, refusal: usize) -> Numbers
     requires { at + 12 ≤ length s.now }
-    ensures { result ≡ verdict_at (old s) at refusal }
+    ensures { result ≡ verdict_at s.now at refusal }
 {
     let code = u16_at(s, at);
     let place = u16_at(s, at + 2);

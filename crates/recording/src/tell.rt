@@ -1,14 +1,13 @@
 // What is printed of the recorded answers: a line for each difference, and how many there are.
 ghost use Rattle.std.specs.Prelude.{◌≡◌, ◌+◌, ◌<◌, ◌≤◌, length};
 ghost use Rattle.image.specs.Pick.{both};
-ghost use Rattle.records.specs.Words.{old};
 ghost use Rattle.recording.specs.Told.{alike, difference, verdict_at, reply_at};
 
 use crate::read;
 
 // An answer as numbers, 0 where it has fewer. Of a pass: refusal, code, place, span words. Of a list: refusal, how many
 // records, and the code, place, related and entry word of one that differs. Of a question: refusal, and 1 for yes.
-#[derive(Drop)]
+#[derive(Clone, Copy)]
 pub struct Numbers(
     pub usize,
     pub usize,
@@ -19,7 +18,7 @@ pub struct Numbers(
 );
 
 // An image by its number in the file, from 0 on, and its recorded refusal.
-#[derive(Drop)]
+#[derive(Clone, Copy)]
 pub struct Case {
     pub number: usize,
     pub refusal: usize,
@@ -91,7 +90,7 @@ pub fn differs(case: Case, asked: &[u8], recorded: Numbers, answered: Numbers) -
 // A pass's answer against the recorded verdict.
 pub fn verdict_differs(case: Case, asked: &[u8], file: &[u8], at: usize, answer: Numbers) -> usize
     requires { at + 12 ≤ length file.now }
-    ensures { (result ≡ difference (verdict_at (old file) at case.refusal) answer) × (result ≤ 1) }
+    ensures { (result ≡ difference (verdict_at file.now at case.refusal) answer) × (result ≤ 1) }
 {
     differs(
         case,
@@ -104,7 +103,7 @@ pub fn verdict_differs(case: Case, asked: &[u8], file: &[u8], at: usize, answer:
 // The answer to a question against the recorded one.
 pub fn answer_differs(case: Case, asked: &[u8], file: &[u8], at: usize, answer: Numbers) -> usize
     requires { at < length file.now }
-    ensures { (result ≡ difference (reply_at (old file) at case.refusal) answer) × (result ≤ 1) }
+    ensures { (result ≡ difference (reply_at file.now at case.refusal) answer) × (result ≤ 1) }
 {
     let recorded = Numbers(case.refusal, read::u8_at(file, at), 0, 0, 0, 0);
     differs(case, asked, recorded, answer)

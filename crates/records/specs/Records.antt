@@ -5,7 +5,6 @@ use Rattle.rules.specs.Tree.{Tree}
 use Rattle.rules.specs.Vocabulary.{Rec, rec, only}
 use Rattle.rules.specs.All.{entry_of}
 pub use Rattle.rules.specs.Answers.{words, laid}
-use Rattle.records.specs.Words.{Lent, old, new}
 use Rattle.records.specs.declared.Hit.{Hit}
 use Rattle.records.specs.declared.Hit.TheVariants.{Nothing, At}
 
@@ -42,8 +41,8 @@ pub record Added {X : Type 0} (e : X → ℕ → ℕ) (F : X → List Rec) (most
   pub few : k ≤ k₀ + most
 
 -- a function that is lent `out`, with `count` records before, adds them and answers the new count
-abbrev pub Adds : {X : Type 0} → (X → Entered) → ℕ → Lent (List ℕ) → ℕ → ℕ → Type 0
-Adds S most out count r = Added (λ x. (S x).entry) (λ x. (S x).list) most (old out) count (new out) r
+abbrev pub Adds : {X : Type 0} → (X → Entered) → ℕ → List ℕ → List ℕ → ℕ → ℕ → Type 0
+Adds S most out out' count r = Added (λ x. (S x).entry) (λ x. (S x).list) most out count out' r
 
 -- a question answers whether a rule gives its record: code c, place p, nothing related
 abbrev pub Asks : {X : Type 0} → (X → Entered) → ℕ → ℕ → Bool → Type 0

@@ -1,12 +1,13 @@
 // One record of a list: written where the buffer has room, and always counted ("List record" of document 01, with the entry of E8).
+#![tactic(auto)]
+
 ghost use Rattle.std.specs.Prelude.{◌≡◌, [], ◌∷◌, ℕ, ◌+◌, ◌*◌, ◌<◌, ◌≤◌, ◌^◌, length, set};
 ghost use Rattle.rules.specs.Vocabulary.{rec, only};
-ghost use Rattle.records.specs.Words.{old, new};
 ghost use Rattle.records.specs.Records.{Adds, under, hit_list};
 
 // Stores w at i, if the buffer has such a word.
 pub fn put(out: &mut [u16], i: usize, w: u16)
-    ensures { new out ≡ set (old out) i w }
+    ensures { out.new ≡ set out.old i w }
 {
     if i < out.len() {
         out[i] = w;
@@ -16,7 +17,7 @@ pub fn put(out: &mut [u16], i: usize, w: u16)
 // Writes a record after the `count` records before it, where there is room, and counts it.
 pub fn emit(out: &mut [u16], count: usize, code: u16, place: u16, related: u16, entry: u16) -> usize
     requires { count < 2 ^ 60 }
-    ensures { Adds (λ (_ : Unit {0}). under entry (rec code place related ∷ [])) 1 out count result }
+    ensures { Adds (λ (_ : Unit {0}). under entry (rec code place related ∷ [])) 1 out.old out.new count result }
 {
     put(out, 4 * count, code);
     put(out, 4 * count + 1, place);
@@ -35,7 +36,7 @@ pub fn emit_if(
     entry: usize,
 ) -> usize
     requires { (count < 2 ^ 60) × (place < 65536) × (entry < 65536) }
-    ensures { Adds (λ (_ : Unit {0}). under entry (only hit (rec code place 0))) 1 out count result }
+    ensures { Adds (λ (_ : Unit {0}). under entry (only hit (rec code place 0))) 1 out.old out.new count result }
 {
     if hit {
         return emit(out, count, code, place as u16, 0, entry as u16);
@@ -44,7 +45,7 @@ pub fn emit_if(
 }
 
 // What a rule whose record has a related word answers: no record, or one with that word.
-#[derive(Drop)]
+#[derive(Clone, Copy)]
 pub enum Hit {
     Nothing,
     At(u16),
@@ -60,7 +61,7 @@ pub fn emit_hit(
     entry: usize,
 ) -> usize
     requires { (count < 2 ^ 60) × (place < 65536) × (entry < 65536) }
-    ensures { Adds (λ (_ : Unit {0}). under entry (hit_list hit code place)) 1 out count result }
+    ensures { Adds (λ (_ : Unit {0}). under entry (hit_list hit code place)) 1 out.old out.new count result }
 {
     match hit {
         Hit::Nothing => count,

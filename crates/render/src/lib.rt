@@ -1,8 +1,8 @@
 // The report of document 01 as text, written into a lent buffer. What does not fit is not written; all of it is counted.
+#![tactic(auto)]
 ghost use Rattle.std.specs.Prelude.{◌≡◌, ◌+◌, ◌*◌, ◌<◌, ◌≤◌, ◌^◌, length};
 ghost use Rattle.rules.specs.Sweep.{run};
 ghost use Rattle.rules.specs.Answers.{list_answer};
-ghost use Rattle.records.specs.Words.{old, new};
 ghost use Rattle.nodes.specs.Shown.{Admitted};
 ghost use Rattle.typeck.specs.Face.{answer_of};
 ghost use Rattle.lines.specs.Line.{Printed};
@@ -14,7 +14,7 @@ use typeck::{Listed, Verdict};
 // The line of a pass.
 fn pass_line(name: &[u8], v: Verdict, out: &mut [u8], at: usize) -> usize
     requires { (at < 2 ^ 50) × (length name.now < 2 ^ 10) }
-    ensures { Printed (old out) at (pass_line (old name) (answer_of v)) (new out) result × (result ≤ at + 2 ^ 11) }
+    ensures { Printed out.old at (pass_line name.now (answer_of v)) out.new result × (result ≤ at + 2 ^ 11) }
 {
     let k = lines::text(name, out, at);
     match v {
@@ -48,7 +48,7 @@ fn record_line(
     at: usize,
 ) -> usize
     requires { Admitted image.now head × (at < 2 ^ 56) × (code < 65536) × (place < 65536) × (related < 65536) × (entry < 65536) }
-    ensures { Printed (old out) at (line_of (old image) code place related entry) (new out) result × (result ≤ at + 46) }
+    ensures { Printed out.old at (line_of image.now code place related entry) out.new result × (result ≤ at + 46) }
 {
     let span = spans::of_place(image, head, place);
     let from = span.from;
@@ -74,7 +74,7 @@ fn record_lines(
     at: usize,
 ) -> usize
     requires { Admitted image.now head × (4 * count ≤ length words.now) × (length words.now ≤ 2 ^ 16) × (at < 2 ^ 52) }
-    ensures { Printed (old out) at (run (line_at (old image) (old words)) 0 count) (new out) result × (result ≤ at + 46 * count) }
+    ensures { Printed out.old at (run (line_at image.now words.now) 0 count) out.new result × (result ≤ at + 46 * count) }
 {
     let mut i = 0;
     let mut k = at;
@@ -92,7 +92,7 @@ fn record_lines(
 // The lines of the list.
 fn list_lines(image: &[u8], head: Image, out: &mut [u8], at: usize) -> usize
     requires { Admitted image.now head × (at < 2 ^ 51) }
-    ensures { Printed (old out) at (list_lines (old image) (list_answer (old image) 32768)) (new out) result × (result ≤ at + 437000) }
+    ensures { Printed out.old at (list_lines image.now (list_answer image.now 32768)) out.new result × (result ≤ at + 437000) }
 {
     let mut words = [0u16; 32768];
     match typeck::list(image, &mut words) {
@@ -110,7 +110,7 @@ fn list_lines(image: &[u8], head: Image, out: &mut [u8], at: usize) -> usize
 
 // The report of an image; none is longer than 450,000 bytes.
 pub fn render(image: &[u8], out: &mut [u8]) -> usize
-    ensures printed { Printed (old out) 0 (report_text (old image)) (new out) result }
+    ensures printed { Printed out.old 0 (report_text image.now) out.new result }
     ensures upper_bound { result ≤ 450000 }
 {
     match admission::admit(image) {

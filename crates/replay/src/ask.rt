@@ -1,13 +1,12 @@
 // The answers of the public face, as the numbers in which they are recorded.
 ghost use Rattle.std.specs.Prelude.{◌≡◌, length};
-ghost use Rattle.records.specs.Words.{old, new};
 ghost use Rattle.replay.specs.Differences.{of_verdict, of_reply, of_listed, listed_for, words_for};
 
 use recording::Numbers;
 use typeck::{Listed, Reply, Verdict};
 
 // Which list is asked for.
-#[derive(Drop)]
+#[derive(Clone, Copy)]
 pub enum Asked {
     Whole,
     Resolve,
@@ -57,7 +56,7 @@ pub fn of_listed(listed: Listed) -> Numbers
 }
 
 pub fn list_of(asked: Asked, image: &[u8], words: &mut [u16]) -> Listed
-    ensures { (result ≡ listed_for asked (old image) (length (old words))) × (new words ≡ words_for asked (old image) (old words)) }
+    ensures { (result ≡ listed_for asked image.now (length words.old)) × (words.new ≡ words_for asked image.now words.old) }
 {
     match asked {
         Asked::Whole => typeck::list(image, words),

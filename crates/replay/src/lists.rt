@@ -1,6 +1,5 @@
 // The recorded list of an image against the face's: whole, in a buffer that is one word short, and each pass's part.
 ghost use Rattle.std.specs.Prelude.{◌≡◌, ◌+◌, ◌*◌, ◌≤◌, length};
-ghost use Rattle.records.specs.Words.{old, new};
 ghost use Rattle.recording.specs.Told.{record_words, record_bytes, Within, list_differences};
 ghost use Rattle.replay.specs.Differences.{list_numbers, words_in, zeros, list_difference, short_difference, lists_differences};
 
@@ -21,8 +20,8 @@ fn blank() -> [u16; WORDS]
 // The answer, its records in the first `size` words.
 fn answer_in(asked: Asked, image: &[u8], words: &mut [u16], size: usize) -> Numbers
     requires { size ≤ length words.old }
-    ensures value { (result ≡ list_numbers asked (old image) size) × (new words ≡ words_in asked (old image) size (old words)) }
-    ensures words_len { length (new words) ≡ length (old words) }
+    ensures value { (result ≡ list_numbers asked image.now size) × (words.new ≡ words_in asked image.now size words.old) }
+    ensures words_len { length words.new ≡ length words.old }
 {
     ask::of_listed(ask::list_of(asked, image, &mut words[..size]))
 }
@@ -38,8 +37,8 @@ fn list_in(
     words: &mut [u16],
 ) -> usize
     requires { Within file.now part × (record_words * part.count ≤ length words.old) }
-    ensures value { (result ≡ list_differences case.refusal (old file) part (list_numbers asked (old image) (record_words * part.count)) (new words)) × (result ≤ part.count + 1) }
-    ensures words_value { new words ≡ words_in asked (old image) (record_words * part.count) (old words) }
+    ensures value { (result ≡ list_differences case.refusal file.now part (list_numbers asked image.now (record_words * part.count)) words.new) × (result ≤ part.count + 1) }
+    ensures words_value { words.new ≡ words_in asked image.now (record_words * part.count) words.old }
 {
     let answer = answer_in(asked, image, words, RECORD_WORDS * part.count);
     recording::records_differ(case, name, file, part, answer, words)
@@ -54,7 +53,7 @@ fn list_differs(
     image: &[u8],
 ) -> usize
     requires { Within file.now part × (length file.now ≤ 450000) }
-    ensures { (result ≡ list_difference asked (old file) part case.refusal (old image)) × (result ≤ 56251) }
+    ensures { (result ≡ list_difference asked file.now part case.refusal image.now) × (result ≤ 56251) }
 {
     let mut words = blank();
     list_in(case, name, asked, file, part, image, &mut words)
@@ -63,7 +62,7 @@ fn list_differs(
 // Where there is a record, a buffer that is one word short is refused by 9.
 fn short_differs(case: Case, count: usize, image: &[u8]) -> usize
     requires { record_bytes * count ≤ 450000 }
-    ensures { (result ≡ short_difference count (old image)) × (result ≤ 1) }
+    ensures { (result ≡ short_difference count image.now) × (result ≤ 1) }
 {
     if count == 0 {
         return 0;
@@ -77,7 +76,7 @@ fn short_differs(case: Case, count: usize, image: &[u8]) -> usize
 // How many of the lists differ from the recorded one.
 pub fn differ(case: Case, file: &[u8], at: usize, count: usize, image: &[u8]) -> usize
     requires { (at + record_bytes * count ≤ length file.now) × (length file.now ≤ 450000) }
-    ensures { (result ≡ lists_differences (old file) at count case.refusal (old image)) × (result ≤ 400000) }
+    ensures { (result ≡ lists_differences file.now at count case.refusal image.now) × (result ≤ 400000) }
 {
     let whole = recording::part_of(at, count);
     let parts = recording::parts_of(file, at, count);

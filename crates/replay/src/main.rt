@@ -1,10 +1,10 @@
 // Replays recorded/answers.bin through the public face and prints what differs. Its layout is in recorded/README.md.
+#![tactic(auto)]
 mod ask;
 mod lists;
 
 ghost use Rattle.std.specs.Prelude.{◌≡◌, ◌+◌, ◌<◌, ◌≤◌, length};
 ghost use Rattle.rules.specs.Linear.{linear};
-ghost use Rattle.records.specs.Words.{old};
 ghost use Rattle.recording.specs.Told.{difference, verdict_at, reply_at};
 ghost use Rattle.replay.specs.Differences.{of_verdict, of_reply, pass_difference, pass_differences, verdict_differences, question_differences};
 ghost use Rattle.replay.specs.Differences.{step_to, ends_early, name_step, names_step, answers_step, image_step, images_step};
@@ -23,7 +23,7 @@ fn room_for_all() -> [u8; ROOM]
 }
 
 // Where the reading goes on and how many differences were told; or, not whole, the answers end too early.
-#[derive(Drop)]
+#[derive(Clone, Copy)]
 struct Step {
     at: usize,
     differ: usize,
@@ -53,7 +53,7 @@ fn step_to(at: usize, differ: usize) -> Step
 // A verdict of the face against the recorded one.
 fn pass_differs(case: Case, asked: &[u8], file: &[u8], at: usize, verdict: Verdict) -> usize
     requires { at + 12 ≤ length file.now }
-    ensures { (result ≡ difference (verdict_at (old file) at case.refusal) (of_verdict verdict)) × (result ≤ 1) }
+    ensures { (result ≡ difference (verdict_at file.now at case.refusal) (of_verdict verdict)) × (result ≤ 1) }
 {
     recording::verdict_differs(case, asked, file, at, ask::of_verdict(verdict))
 }
@@ -61,7 +61,7 @@ fn pass_differs(case: Case, asked: &[u8], file: &[u8], at: usize, verdict: Verdi
 // The refusal, and each pass asked by itself.
 fn passes_differ(case: Case, file: &[u8], at: usize, image: &[u8]) -> usize
     requires { at + 36 ≤ length file.now }
-    ensures { (result ≡ pass_differences (old file) at case.refusal (old image)) × (result ≤ 4) }
+    ensures { (result ≡ pass_differences file.now at case.refusal image.now) × (result ≤ 4) }
 {
     let recorded = Numbers(case.refusal, 0, 0, 0, 0, 0);
     let refused = Numbers(typeck::refused(image), 0, 0, 0, 0, 0);
@@ -75,7 +75,7 @@ fn passes_differ(case: Case, file: &[u8], at: usize, image: &[u8]) -> usize
 // The passes asked at once.
 fn verdicts_differ(case: Case, file: &[u8], at: usize, image: &[u8]) -> usize
     requires { at + 36 ≤ length file.now }
-    ensures { (result ≡ verdict_differences (old file) at case.refusal (old image)) × (result ≤ 3) }
+    ensures { (result ≡ verdict_differences file.now at case.refusal image.now) × (result ≤ 3) }
 {
     let answers = typeck::verdicts(image);
     let resolve = answers.resolve;
@@ -90,7 +90,7 @@ fn verdicts_differ(case: Case, file: &[u8], at: usize, image: &[u8]) -> usize
 // The linear pass in a table of rows that it is lent.
 fn lent_differs(case: Case, file: &[u8], at: usize, image: &[u8]) -> usize
     requires { at + 36 ≤ length file.now }
-    ensures { (result ≡ pass_difference linear (old file) (at + 24) case.refusal (old image)) × (result ≤ 1) }
+    ensures { (result ≡ pass_difference linear file.now (at + 24) case.refusal image.now) × (result ≤ 1) }
 {
     let verdict = linear_lent::linear_here(image);
     pass_differs(case, b"linear, rows lent", file, at + 24, verdict)
@@ -99,7 +99,7 @@ fn lent_differs(case: Case, file: &[u8], at: usize, image: &[u8]) -> usize
 // An answer of the face about a name against the recorded one.
 fn reply_differs(case: Case, asked: &[u8], file: &[u8], at: usize, reply: Reply) -> usize
     requires { at < length file.now }
-    ensures { (result ≡ difference (reply_at (old file) at case.refusal) (of_reply reply)) × (result ≤ 1) }
+    ensures { (result ≡ difference (reply_at file.now at case.refusal) (of_reply reply)) × (result ≤ 1) }
 {
     recording::answer_differs(case, asked, file, at, ask::of_reply(reply))
 }
@@ -107,7 +107,7 @@ fn reply_differs(case: Case, asked: &[u8], file: &[u8], at: usize, reply: Reply)
 // The three questions about one name.
 fn questions_differ(case: Case, file: &[u8], at: usize, image: &[u8], name: &[u8]) -> usize
     requires { at + 3 ≤ length file.now }
-    ensures { (result ≡ question_differences (old file) at case.refusal (old image) (old name)) × (result ≤ 3) }
+    ensures { (result ≡ question_differences file.now at case.refusal image.now name.now) × (result ≤ 3) }
 {
     let state = typeck::is_state(image, name);
     let declared = typeck::is_declared_asset(image, name);
@@ -121,7 +121,7 @@ fn questions_differ(case: Case, file: &[u8], at: usize, image: &[u8], name: &[u8
 // One name that is asked about.
 fn name_step(case: Case, file: &[u8], at: usize, image: &[u8]) -> Step
     requires { at ≤ length file.now }
-    ensures value { result ≡ name_step (old file) case.refusal (old image) at }
+    ensures value { result ≡ name_step file.now case.refusal image.now at }
     ensures at_in_bounds { (result.at ≤ length file.now) × (result.differ ≤ 3) }
 {
     let n = file.len();
@@ -141,7 +141,7 @@ fn name_step(case: Case, file: &[u8], at: usize, image: &[u8]) -> Step
 // The names that are asked about.
 fn names_step(case: Case, file: &[u8], at: usize, count: usize, image: &[u8]) -> Step
     requires { (at ≤ length file.now) × (count < 256) }
-    ensures value { result ≡ names_step (old file) case.refusal (old image) count at }
+    ensures value { result ≡ names_step file.now case.refusal image.now count at }
     ensures at_in_bounds { (result.at ≤ length file.now) × (result.differ ≤ 768) }
 {
     let mut next = at;
@@ -162,7 +162,7 @@ fn names_step(case: Case, file: &[u8], at: usize, count: usize, image: &[u8]) ->
 // The answers on one image, from its refusal on.
 fn answers_step(file: &[u8], at: usize, number: usize, image: &[u8]) -> Step
     requires { (at + 41 ≤ length file.now) × (length file.now ≤ 450000) }
-    ensures value { result ≡ answers_step (old file) at (old image) }
+    ensures value { result ≡ answers_step file.now at image.now }
     ensures at_in_bounds { (result.at ≤ length file.now) × (result.differ ≤ 500000) }
 {
     let refusal = recording::u8_at(file, at);
@@ -189,7 +189,7 @@ fn answers_step(file: &[u8], at: usize, number: usize, image: &[u8]) -> Step
 // One image and the answers on it.
 fn image_step(file: &[u8], at: usize, number: usize) -> Step
     requires { (at ≤ length file.now) × (length file.now ≤ 450000) }
-    ensures value { result ≡ image_step (old file) at }
+    ensures value { result ≡ image_step file.now at }
     ensures at_in_bounds { (result.at ≤ length file.now) × (result.differ ≤ 500000) }
 {
     let n = file.len();
@@ -208,7 +208,7 @@ fn image_step(file: &[u8], at: usize, number: usize) -> Step
 // All images, from the first on.
 fn images_step(file: &[u8], count: usize) -> Step
     requires { (4 ≤ length file.now) × (length file.now ≤ 450000) × (count ≤ 4294967296) }
-    ensures value { result ≡ images_step (old file) count }
+    ensures value { result ≡ images_step file.now count }
     ensures at_in_bounds { result.at ≤ length file.now }
 {
     let mut next = 4;

@@ -6,7 +6,6 @@ use Rattle.rules.specs.Words.{mint_asset, Q_Address}
 use Rattle.rules.specs.Vocabulary.{Rec, calls}
 use Rattle.rules.specs.Model.{is_state, is_state_typed, is_declared_asset, is_known_asset}
 use Rattle.rules.specs.Resolve.{rule34, rule40, genesis_rules, entry_rules, group20, group21, group22, group23, group24, group30}
-use Rattle.records.specs.Words.{Lent, old, new}
 use Rattle.records.specs.Records.{Entered, on}
 use Rattle.nodes.specs.Shown.{View, In, tree_of}
 use Rattle.nodes.specs.Marks.{Marks}
@@ -57,18 +56,18 @@ abbrev pub first_groups : Tree → List Rec
 first_groups t = group20 t ++ (group21 t ++ (group22 t ++ (group23 t ++ (group24 t ++ group30 t))))
 
 -- what F says of the tree of the nodes that are lent, by each of these
-abbrev pub lent_first : (Tree → List Rec) → (nodes : Lent (List ℕ)) (mint : ℕ) (state : Lent (List Bool)) → LentFirst (old nodes) mint (old state) → Entered
+abbrev pub lent_first : (Tree → List Rec) → (nodes : List ℕ) (mint : ℕ) (state : List Bool) → LentFirst nodes mint state → Entered
 lent_first F nodes mint state T = on F (tree_of T.view)
 
-abbrev pub worded : (Tree → List Rec) → (nodes : Lent (List ℕ)) (state builtin method : Lent (List Bool)) → CallTables (old nodes) (old state) (old builtin) (old method) → Entered
+abbrev pub worded : (Tree → List Rec) → (nodes : List ℕ) (state builtin method : List Bool) → CallTables nodes state builtin method → Entered
 worded F nodes state builtin method T = on F (tree_of T.view)
 
-abbrev pub of_entry : (Tree → List Rec) → (nodes : Lent (List ℕ)) (address : ℕ) (fields params builtin method : Lent (List Bool)) → Called (old nodes) address (old fields) (old params) (old builtin) (old method) → Entered
+abbrev pub of_entry : (Tree → List Rec) → (nodes : List ℕ) (address : ℕ) (fields params builtin method : List Bool) → Called nodes address fields params builtin method → Entered
 of_entry F nodes address fields params builtin method T = on F (tree_of T.view)
 
-abbrev pub lent : (Tree → List Rec) → (nodes : Lent (List ℕ)) (address : ℕ) (state declared known fields params builtin method : Lent (List Bool)) → ResolveTables (old nodes) address (old state) (old declared) (old known) (old fields) (old params) (old builtin) (old method) → Entered
+abbrev pub lent : (Tree → List Rec) → (nodes : List ℕ) (address : ℕ) (state declared known fields params builtin method : List Bool) → ResolveTables nodes address state declared known fields params builtin method → Entered
 lent F nodes address state declared known fields params builtin method T = on F (tree_of T.of_entry.view)
 
 -- no parameter is marked afterwards
-abbrev pub CleansParams : (nodes : Lent (List ℕ)) (address : ℕ) (fields params builtin method : Lent (List Bool)) → Type 0
-CleansParams nodes address fields params builtin method = (T : Called (old nodes) address (old fields) (old params) (old builtin) (old method)) → Marks T.view.image (λ w. false) (new params)
+abbrev pub CleansParams : (nodes : List ℕ) (address : ℕ) (fields params params' builtin method : List Bool) → Type 0
+CleansParams nodes address fields params params' builtin method = (T : Called nodes address fields params builtin method) → Marks T.view.image (λ w. false) params'

@@ -1,8 +1,8 @@
 // The resolve pass: codes 20 to 40 of document 01, as the pass's part of the list, the groups in order.
+#![tactic(auto)]
 ghost use Rattle.std.specs.Prelude.{◌≡◌, false, ◌++◌, ◌*◌, ◌<◌, ◌^◌};
 ghost use Rattle.rules.specs.Tree.{genesis};
 ghost use Rattle.rules.specs.Resolve.{group33, group35, resolve};
-ghost use Rattle.records.specs.Words.{old, new};
 ghost use Rattle.records.specs.Records.{Adds};
 ghost use Rattle.nodes.specs.Shown.{In};
 ghost use Rattle.nodes.specs.First.{Head};
@@ -20,7 +20,7 @@ use resolve_clauses::Rule;
 // 20, 21, 22, 23, 24 to 29, 30 and 31; `mint_asset` has the number `mint`.
 fn first_groups(nodes: &[u8], items: Items, mint: usize, state: &Marks, out: &mut [u16]) -> usize
     requires { LentFirst nodes.now mint state.now × ItemsOf nodes.now items }
-    ensures { Adds (lent_first first_groups nodes mint state) (2 ^ 35) out 0 result }
+    ensures { Adds (lent_first first_groups nodes.now mint state.now) (2 ^ 35) out.old out.new 0 result }
 {
     let fields = resolve_names::group20(nodes, out, 0);
     let events = resolve_names::group21(items.event, nodes, out, fields);
@@ -41,7 +41,7 @@ fn genesis(
     count: usize,
 ) -> usize
     requires { CallTables nodes.now state.now builtin.now method.now × In nodes.now 0 item × (0 < item) × (count < 2 ^ 48) }
-    ensures { Adds (worded (item33 item) nodes state builtin method) 4096 out count result }
+    ensures { Adds (worded (item33 item) nodes.now state.now builtin.now method.now) 4096 out.old out.new count result }
 {
     if nodes::kind(nodes, 0, item) != GENESIS {
         return count;
@@ -63,7 +63,7 @@ fn group33(
     count: usize,
 ) -> usize
     requires { CallTables nodes.now state.now builtin.now method.now × In nodes.now 0 0 × (count < 2 ^ 40) × (has ≡ false → NoItem genesis nodes.now) }
-    ensures { Adds (worded group33 nodes state builtin method) (4096 * 2048) out count result }
+    ensures { Adds (worded group33 nodes.now state.now builtin.now method.now) (4096 * 2048) out.old out.new count result }
 {
     if !has {
         return count;
@@ -96,8 +96,8 @@ fn entry_calls(
     count: usize,
 ) -> usize
     requires { Called nodes.now address fields.now params.old builtin.now method.now × Head nodes.now 0 entry first × (count < 2 ^ 48) }
-    ensures adds { Adds (of_entry (entry_calls entry) nodes address fields params builtin method) 4096 out count result }
-    ensures cleans_params { CleansParams nodes address fields params builtin method }
+    ensures adds { Adds (of_entry (entry_calls entry) nodes.now address fields.now params.old builtin.now method.now) 4096 out.old out.new count result }
+    ensures cleans_params { CleansParams nodes.now address fields.now params.old params.new builtin.now method.now }
 {
     resolve_calls::mark_params(nodes, entry, first, address, true, params);
     let body = items::statements(nodes, 0, entry, first);
@@ -126,8 +126,8 @@ fn entry(
     count: usize,
 ) -> usize
     requires { ResolveTables nodes.now address state.now declared.now known.now fields.now params.old builtin.now method.now × In nodes.now 0 item × (0 < item) × (count < 2 ^ 44) }
-    ensures adds { Adds (lent (item35 item) nodes address state declared known fields params builtin method) (2 ^ 23) out count result }
-    ensures cleans_params { CleansParams nodes address fields params builtin method }
+    ensures adds { Adds (lent (item35 item) nodes.now address state.now declared.now known.now fields.now params.old builtin.now method.now) (2 ^ 23) out.old out.new count result }
+    ensures cleans_params { CleansParams nodes.now address fields.now params.old params.new builtin.now method.now }
 {
     if nodes::kind(nodes, 0, item) != ENTRY {
         return count;
@@ -163,7 +163,7 @@ fn group35(
     count: usize,
 ) -> usize
     requires { ResolveTables nodes.now address state.now declared.now known.now fields.now params.old builtin.now method.now × In nodes.now 0 0 × (count < 2 ^ 40) }
-    ensures { Adds (lent group35 nodes address state declared known fields params builtin method) (2 ^ 34) out count result }
+    ensures { Adds (lent group35 nodes.now address state.now declared.now known.now fields.now params.old builtin.now method.now) (2 ^ 34) out.old out.new count result }
 {
     let end = nodes::end(nodes, 0, 0);
     let mut total = count;
@@ -202,7 +202,7 @@ fn last_groups(
     count: usize,
 ) -> usize
     requires { Looked nodes.now words state.now × (count < 2 ^ 39) × (has ≡ false → NoItem genesis nodes.now) }
-    ensures { Adds (looked (λ t. group33 t ++ group35 t) nodes words state) (2 ^ 35) out count result }
+    ensures { Adds (looked (λ t. group33 t ++ group35 t) nodes.now words state.now) (2 ^ 35) out.old out.new count result }
 {
     let mut declared = [false; Image::NAMES];
     model::mark_declared(nodes, &mut declared);
@@ -235,7 +235,7 @@ fn last_groups(
 // The records of the resolve pass, from the buffer's start; words and state names were looked up before.
 pub fn list(nodes: &[u8], words: Words, state: &Marks, out: &mut [u16]) -> usize
     requires { Looked nodes.now words state.now }
-    ensures { Adds (looked resolve nodes words state) (2 ^ 38) out 0 result }
+    ensures { Adds (looked resolve nodes.now words state.now) (2 ^ 38) out.old out.new 0 result }
 {
     let items = items::find_items(nodes);
     let builtins = words.builtins;

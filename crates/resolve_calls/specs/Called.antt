@@ -7,7 +7,6 @@ use Rattle.rules.specs.Words.{Q_Address, builtins, methods}
 use Rattle.rules.specs.Vocabulary.{Rec, some_below, named, typed}
 use Rattle.rules.specs.Model.{is_state_typed}
 use Rattle.rules.specs.Resolve.{rule34, rule40}
-use Rattle.records.specs.Words.{Lent, old, new}
 use Rattle.records.specs.Records.{Entered, on}
 use Rattle.nodes.specs.Shown.{View, tree_of}
 use Rattle.nodes.specs.Marks.{Marks, Turned}
@@ -52,27 +51,27 @@ abbrev pub at40 : ℕ → Tree → ℕ → List Rec
 at40 p t e = keep (has (t.kind p) call) (rule40 t e) p
 
 -- what F says of the tree of the nodes that are lent; of the tree and the entry
-abbrev pub known : (Tree → List Rec) → (nodes : Lent (List ℕ)) (base : ℕ) (builtin method : Lent (List Bool)) → CallWords (old nodes) base (old builtin) (old method) → Entered
+abbrev pub known : (Tree → List Rec) → (nodes : List ℕ) (base : ℕ) (builtin method : List Bool) → CallWords nodes base builtin method → Entered
 known F nodes base builtin method T = on F (tree_of T.view)
 
-abbrev pub called : (Tree → ℕ → List Rec) → (nodes : Lent (List ℕ)) (base : ℕ) (fields params : Lent (List Bool)) → Calling (old nodes) base (old fields) (old params) → Entered
+abbrev pub called : (Tree → ℕ → List Rec) → (nodes : List ℕ) (base : ℕ) (fields params : List Bool) → Calling nodes base fields params → Entered
 called F nodes base fields params T = on (λ t. F t T.entry) (tree_of T.view)
 
 -- 34, 40 at all of the nodes that are lent
-abbrev pub swept34 : (nodes : Lent (List ℕ)) (base : ℕ) (builtin method : Lent (List Bool)) → CallWords (old nodes) base (old builtin) (old method) → Entered
+abbrev pub swept34 : (nodes : List ℕ) (base : ℕ) (builtin method : List Bool) → CallWords nodes base builtin method → Entered
 swept34 nodes base builtin method T = on (λ t. run (λ p. at34 p t) base (T.view.upto - base)) (tree_of T.view)
 
-abbrev pub swept40 : (nodes : Lent (List ℕ)) (base : ℕ) (fields params : Lent (List Bool)) → Calling (old nodes) base (old fields) (old params) → Entered
+abbrev pub swept40 : (nodes : List ℕ) (base : ℕ) (fields params : List Bool) → Calling nodes base fields params → Entered
 swept40 nodes base fields params T = on (λ t. run (λ p. at40 p t T.entry) base (T.view.upto - base)) (tree_of T.view)
 
 -- the mark of a FieldDecl's Name says whether it is of type `Q_Address`: a later one of the same name replaces the earlier one's
 abbrev pub field_at : Tree → List ℕ → ℕ → Bool
 field_at t w i = also (has (t.kind i) field) (named t w) i
 
-abbrev pub TypesField : (nodes : Lent (List ℕ)) (p address : ℕ) → Lent (List Bool) → Type 0
-TypesField nodes p address fields = (T : AddressTyping (old nodes) address) (P : List ℕ → Bool) → Marks T.view.image P (old fields)
-    → Marks T.view.image (λ w. pick (field_at (tree_of T.view) w p) (typed (tree_of T.view) Q_Address p) (P w)) (new fields)
+abbrev pub TypesField : (nodes : List ℕ) (p address : ℕ) → List Bool → List Bool → Type 0
+TypesField nodes p address fields fields' = (T : AddressTyping nodes address) (P : List ℕ → Bool) → Marks T.view.image P fields
+    → Marks T.view.image (λ w. pick (field_at (tree_of T.view) w p) (typed (tree_of T.view) Q_Address p) (P w)) fields'
 
 -- the marks of the names that G finds, by the number of `Q_Address`, are set, or taken off
-abbrev pub TurnsTyped : Bool → (nodes : Lent (List ℕ)) (address : ℕ) → (Tree → List ℕ → Bool) → Lent (List Bool) → Type 0
-TurnsTyped on nodes address G params = Turned on (λ (T : AddressTyping (old nodes) address). T.view.image) (λ T. G (tree_of T.view)) (old params) (new params)
+abbrev pub TurnsTyped : Bool → (nodes : List ℕ) (address : ℕ) → (Tree → List ℕ → Bool) → List Bool → List Bool → Type 0
+TurnsTyped on nodes address G params params' = Turned on (λ (T : AddressTyping nodes address). T.view.image) (λ T. G (tree_of T.view)) params params'

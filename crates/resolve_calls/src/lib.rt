@@ -1,4 +1,5 @@
 // Calls: codes 34 and 40 of document 01, and the marks that they ask.
+#![tactic(auto)]
 ghost use Rattle.std.specs.Prelude.{◌≡◌, true, false, List, [], ℕ, ◌<◌, ◌^◌};
 ghost use Rattle.image.specs.Admit.{refusal};
 ghost use Rattle.rules.specs.Sweep.{also, has};
@@ -7,7 +8,6 @@ ghost use Rattle.rules.specs.Words.{Q_Address};
 ghost use Rattle.rules.specs.Vocabulary.{at_bottom};
 ghost use Rattle.rules.specs.Model.{is_state_typed};
 ghost use Rattle.rules.specs.Resolve.{is_address};
-ghost use Rattle.records.specs.Words.{old, new};
 ghost use Rattle.records.specs.Records.{Adds, Asks};
 ghost use Rattle.nodes.specs.Entries.{in_part};
 ghost use Rattle.nodes.specs.Shown.{In, tree_of};
@@ -22,7 +22,7 @@ use nodes::{CALL, CALLER, Cursor, FIELD_DECL, IDENT, Marks, PARAM, Past};
 // 34 at a node of an item's statements: a Call of neither a word that may be called nor a method.
 fn rule34(nodes: &[u8], base: usize, p: usize, builtin: &Marks, method: &Marks) -> bool
     requires { CallWords nodes.now base builtin.now method.now × In nodes.now base p }
-    ensures { Asks (known (at34 p) nodes base builtin method) 34 p result }
+    ensures { Asks (known (at34 p) nodes.now base builtin.now method.now) 34 p result }
 {
     if nodes::kind(nodes, base, p) != CALL {
         return false;
@@ -44,7 +44,7 @@ pub fn calls34(
     count: usize,
 ) -> usize
     requires { CallWords nodes.now base builtin.now method.now × (count < 2 ^ 50) × (entry < 2048) }
-    ensures { Adds (in_part entry nodes base (swept34 nodes base builtin method)) 2048 out count result }
+    ensures { Adds (in_part entry nodes.now base (swept34 nodes.now base builtin.now method.now)) 2048 out.old out.new count result }
 {
     let end = base + nodes.len() / 16;
     let mut total = count;
@@ -66,7 +66,7 @@ pub fn calls34(
 // Whether x, peeled at each step down Field bases, ends in Caller or in a `Q_Address` state field or parameter.
 fn is_address(nodes: &[u8], base: usize, x: usize, fields: &Marks, params: &Marks) -> bool
     requires { Calling nodes.now base fields.now params.now × In nodes.now base x }
-    ensures { (T : Calling (old nodes) base (old fields) (old params)) → result ≡ at_bottom (tree_of T.view) peels_fields x (is_address (tree_of T.view) T.entry) }
+    ensures { (T : Calling nodes.now base fields.now params.now) → result ≡ at_bottom (tree_of T.view) peels_fields x (is_address (tree_of T.view) T.entry) }
 {
     let bottom = nodes::down(Past::Both, nodes, base, x);
     if nodes::end(nodes, base, x) <= bottom {
@@ -87,7 +87,7 @@ fn is_address(nodes: &[u8], base: usize, x: usize, fields: &Marks, params: &Mark
 // 40 at a node of an entry's statements: a Call on an address.
 fn rule40(nodes: &[u8], base: usize, p: usize, fields: &Marks, params: &Marks) -> bool
     requires { Calling nodes.now base fields.now params.now × In nodes.now base p }
-    ensures { Asks (called (at40 p) nodes base fields params) 40 p result }
+    ensures { Asks (called (at40 p) nodes.now base fields.now params.now) 40 p result }
 {
     if nodes::kind(nodes, base, p) != CALL {
         return false;
@@ -106,7 +106,7 @@ pub fn calls40(
     count: usize,
 ) -> usize
     requires { Calling nodes.now base fields.now params.now × (count < 2 ^ 50) × (entry < 2048) }
-    ensures { Adds (in_part entry nodes base (swept40 nodes base fields params)) 2048 out count result }
+    ensures { Adds (in_part entry nodes.now base (swept40 nodes.now base fields.now params.now)) 2048 out.old out.new count result }
 {
     let end = base + nodes.len() / 16;
     let mut total = count;
@@ -135,7 +135,7 @@ pub fn is_clean(
     method: &Marks,
 ) -> bool
     requires { Calling nodes.now base fields.now params.now × CallWords nodes.now base builtin.now method.now }
-    ensures { result ≡ true → ((T : Calling (old nodes) base (old fields) (old params)) → (swept40 nodes base fields params T).list ≡ []) × ((T : CallWords (old nodes) base (old builtin) (old method)) → (swept34 nodes base builtin method T).list ≡ []) }
+    ensures { result ≡ true → ((T : Calling nodes.now base fields.now params.now) → (swept40 nodes.now base fields.now params.now T).list ≡ []) × ((T : CallWords nodes.now base builtin.now method.now) → (swept34 nodes.now base builtin.now method.now T).list ≡ []) }
 {
     let end = base + nodes.len() / 16;
     let mut p = base;
@@ -154,7 +154,7 @@ pub fn is_clean(
 // The marks of the words that a Call may call.
 pub fn mark_builtins(words: Builtins, builtin: &mut Marks)
     requires { (s : List ℕ) × (refusal s ≡ 0) × BuiltinsOf s words }
-    ensures { (s : List ℕ) → refusal s ≡ 0 → BuiltinsOf s words → Marks s (λ w. false) (old builtin) → Marks s is_builtin (new builtin) }
+    ensures { (s : List ℕ) → refusal s ≡ 0 → BuiltinsOf s words → Marks s (λ w. false) builtin.old → Marks s is_builtin builtin.new }
 {
     names::mark_number(words.send, builtin);
     names::mark_number(words.send_asset, builtin);
@@ -165,7 +165,7 @@ pub fn mark_builtins(words: Builtins, builtin: &mut Marks)
 // The marks of the words that a Call may call of a base.
 pub fn mark_methods(words: Methods, method: &mut Marks)
     requires { (s : List ℕ) × (refusal s ≡ 0) × MethodsOf s words }
-    ensures { (s : List ℕ) → refusal s ≡ 0 → MethodsOf s words → Marks s (λ w. false) (old method) → Marks s is_method (new method) }
+    ensures { (s : List ℕ) → refusal s ≡ 0 → MethodsOf s words → Marks s (λ w. false) method.old → Marks s is_method method.new }
 {
     names::mark_number(words.get, method);
     names::mark_number(words.contains, method);
@@ -181,7 +181,7 @@ pub fn mark_methods(words: Methods, method: &mut Marks)
 // A FieldDecl: the mark of its Name says whether it is of type `Q_Address`, which has the number `address`.
 fn mark_field(nodes: &[u8], p: usize, address: usize, fields: &mut Marks)
     requires { AddressTyping nodes.now address × In nodes.now 0 p }
-    ensures { TypesField nodes p address fields }
+    ensures { TypesField nodes.now p address fields.old fields.new }
 {
     if nodes::kind(nodes, 0, p) == FIELD_DECL {
         let on = names::is_word(address, nodes, 0, p + 3);
@@ -192,7 +192,7 @@ fn mark_field(nodes: &[u8], p: usize, address: usize, fields: &mut Marks)
 // The marks of the state fields that are of type `Q_Address` by their last declaration; none where the image has no such name.
 pub fn mark_fields(nodes: &[u8], address: usize, fields: &mut Marks)
     requires { AddressTyping nodes.now address × In nodes.now 0 0 }
-    ensures { (T : AddressTyping (old nodes) address) → Marks T.view.image (λ w. false) (old fields) → Marks T.view.image (is_state_typed (tree_of T.view) Q_Address) (new fields) }
+    ensures { (T : AddressTyping nodes.now address) → Marks T.view.image (λ w. false) fields.old → Marks T.view.image (is_state_typed (tree_of T.view) Q_Address) fields.new }
 {
     if address < 1 {
         return;
@@ -208,7 +208,7 @@ pub fn mark_fields(nodes: &[u8], address: usize, fields: &mut Marks)
 // A Param of type `Q_Address`: the mark of its Name is set, or taken off.
 fn mark_param(nodes: &[u8], p: usize, address: usize, on: bool, params: &mut Marks)
     requires { AddressTyping nodes.now address × In nodes.now 0 p }
-    ensures { TurnsTyped on nodes address (λ t w. also (has (t.kind p) param) (param_at t w) p) params }
+    ensures { TurnsTyped on nodes.now address (λ t w. also (has (t.kind p) param) (param_at t w) p) params.old params.new }
 {
     if nodes::kind(nodes, 0, p) != PARAM {
         return;
@@ -228,7 +228,7 @@ pub fn mark_params(
     params: &mut Marks,
 )
     requires { AddressTyping nodes.now address × Head nodes.now 0 entry to }
-    ensures { TurnsTyped on nodes address (λ t w. param_typed t entry w) params }
+    ensures { TurnsTyped on nodes.now address (λ t w. param_typed t entry w) params.old params.new }
 {
     if address < 1 {
         return;

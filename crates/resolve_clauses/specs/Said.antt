@@ -6,7 +6,6 @@ use Rattle.rules.specs.Tree.{Tree, name, param, naming, assign}
 use Rattle.rules.specs.Vocabulary.{Rec, rec, only, below}
 use Rattle.rules.specs.Model.{is_state, is_declared_asset, is_known_asset}
 use Rattle.rules.specs.Resolve.{rule33, clause_rule}
-use Rattle.records.specs.Words.{Lent, old}
 use Rattle.records.specs.Records.{Entered, on}
 use Rattle.nodes.specs.Shown.{View, tree_of}
 use Rattle.nodes.specs.Marks.{Marks}
@@ -51,8 +50,8 @@ abbrev pub clause36 : Tree → ℕ → List Rec
 clause36 t p = keep (has (t.kind p) naming) (clause_rules t) p
 
 -- what F says of the tree of the nodes that are lent (and of what the table says)
-abbrev pub told : ((List ℕ → Bool) → Tree → List Rec) → (nodes : Lent (List ℕ)) (base : ℕ) (marks : Lent (List Bool)) → OneTable (old nodes) base (old marks) → Entered
+abbrev pub told : ((List ℕ → Bool) → Tree → List Rec) → (nodes : List ℕ) (base : ℕ) (marks : List Bool) → OneTable nodes base marks → Entered
 told F nodes base marks T = on (F T.says) (tree_of T.view)
 
-abbrev pub listed : (Tree → List Rec) → (nodes : Lent (List ℕ)) (state declared known : Lent (List Bool)) → AssetMarks (old nodes) (old state) (old declared) (old known) → Entered
+abbrev pub listed : (Tree → List Rec) → (nodes : List ℕ) (state declared known : List Bool) → AssetMarks nodes state declared known → Entered
 listed F nodes state declared known T = on F (tree_of T.view)

@@ -1,10 +1,10 @@
 // Codes 33 and 35 to 39 of document 01: the Assigns of a Genesis, an entry's signers and clauses; a rule about words, which 32 is too.
+#![tactic(auto)]
 ghost use Rattle.std.specs.Prelude.{◌≡◌, Bool, true, false, List, [], ◌∷◌, ℕ, ◌+◌, ◌*◌, ◌-◌, ◌<◌, ◌≤◌, ◌^◌};
 ghost use Rattle.rules.specs.Sweep.{run};
 ghost use Rattle.rules.specs.Tree.{assign, naming};
 ghost use Rattle.rules.specs.Vocabulary.{below, signers};
 ghost use Rattle.rules.specs.Resolve.{rule33};
-ghost use Rattle.records.specs.Words.{old, new};
 ghost use Rattle.records.specs.Records.{Adds, Asks, within};
 ghost use Rattle.nodes.specs.Entries.{in_node};
 ghost use Rattle.nodes.specs.Shown.{View, In, Worded, tree_of};
@@ -19,13 +19,13 @@ use nodes::{
 };
 
 // A rule about words: kind, on, code. At a node of this kind whose word is marked, or (off) is not, it finds its code.
-#[derive(Drop)]
+#[derive(Clone, Copy)]
 pub struct Rule(pub usize, pub bool, pub u16);
 
 // Whether the rule finds its offence in the word of node p.
 fn is_hit(rule: Rule, nodes: &[u8], base: usize, p: usize, marks: &Marks) -> bool
     requires { Worded nodes.now base p }
-    ensures { Asks (told (λ P t. at_word rule P t p) nodes base marks) rule.2 p result }
+    ensures { Asks (told (λ P t. at_word rule P t p) nodes.now base marks.now) rule.2 p result }
 {
     nodes::is_marked(marks, nodes, base, p) == rule.1
 }
@@ -33,7 +33,7 @@ fn is_hit(rule: Rule, nodes: &[u8], base: usize, p: usize, marks: &Marks) -> boo
 // Whether the rule finds its offence at node p.
 fn finds(rule: Rule, nodes: &[u8], base: usize, p: usize, marks: &Marks) -> bool
     requires { View nodes.now base × CarriesWord rule.0 × In nodes.now base p }
-    ensures { Asks (told (λ P t. at_node rule P t p) nodes base marks) rule.2 p result }
+    ensures { Asks (told (λ P t. at_node rule P t p) nodes.now base marks.now) rule.2 p result }
 {
     if nodes::kind(nodes, base, p) != rule.0 {
         return false;
@@ -54,7 +54,7 @@ pub fn words(
     count: usize,
 ) -> usize
     requires { OneTable nodes.now base marks.now × CarriesWord rule.0 × Span nodes.now base from end × (count < 2 ^ 50) × (entry < 2048) }
-    ensures { Adds (within entry from end (told (λ P t. run (at_node rule P t) from (end - from)) nodes base marks)) 2048 out count result }
+    ensures { Adds (within entry from end (told (λ P t. run (at_node rule P t) from (end - from)) nodes.now base marks.now)) 2048 out.old out.new count result }
 {
     let mut total = count;
     let mut p = from;
@@ -83,7 +83,7 @@ pub fn within(
     count: usize,
 ) -> usize
     requires { OneTable nodes.now 0 marks.now × CarriesWord rule.0 × In nodes.now 0 node × (count < 2 ^ 50) × (entry < 2048) }
-    ensures { Adds (in_node entry nodes node (told (λ P t. below t (rule.0 ∷ []) node (at_word rule P t)) nodes 0 marks)) 2048 out count result }
+    ensures { Adds (in_node entry nodes.now node (told (λ P t. below t (rule.0 ∷ []) node (at_word rule P t)) nodes.now 0 marks.now)) 2048 out.old out.new count result }
 {
     let end = nodes::end(nodes, 0, node);
     words(rule, nodes, 0, node + 1, end, entry, marks, out, count)
@@ -100,7 +100,7 @@ fn signer(
     count: usize,
 ) -> usize
     requires { OneTable nodes.now 0 marks.now × In nodes.now 0 p × (count < 2 ^ 60) × (entry < 2048) }
-    ensures { Adds (in_node entry nodes p (told (λ P t. at_signer (at_word rule P t) t p) nodes 0 marks)) 1 out count result }
+    ensures { Adds (in_node entry nodes.now p (told (λ P t. at_signer (at_word rule P t) t p) nodes.now 0 marks.now)) 1 out.old out.new count result }
 {
     if nodes::kind(nodes, 0, p) != PARAM {
         return count;
@@ -130,7 +130,7 @@ pub fn signers(
     count: usize,
 ) -> usize
     requires { OneTable nodes.now 0 marks.now × Head nodes.now 0 entry to × (count < 2 ^ 50) }
-    ensures { Adds (told (λ P t. signers t entry (at_word rule P t)) nodes 0 marks) 2048 out count result }
+    ensures { Adds (told (λ P t. signers t entry (at_word rule P t)) nodes.now 0 marks.now) 2048 out.old out.new count result }
 {
     let mut total = count;
     let mut children = Cursor {
@@ -148,7 +148,7 @@ pub fn signers(
 // 33 at a node of a Genesis: an Assign whose root, by Fields only, is no state name.
 fn rule33(nodes: &[u8], p: usize, state: &Marks) -> bool
     requires { View nodes.now 0 × In nodes.now 0 p }
-    ensures { Asks (seen (at33 p) nodes 0 state) 33 p result }
+    ensures { Asks (seen (at33 p) nodes.now 0 state.now) 33 p result }
 {
     if nodes::kind(nodes, 0, p) != ASSIGN {
         return false;
@@ -166,7 +166,7 @@ fn rule33(nodes: &[u8], p: usize, state: &Marks) -> bool
 // 33 in a Genesis, which stands in no entry, from statement to statement.
 pub fn assigns(nodes: &[u8], genesis: usize, state: &Marks, out: &mut [u16], count: usize) -> usize
     requires { State nodes.now 0 state.now × In nodes.now 0 genesis × (0 < genesis) × (count < 2 ^ 50) }
-    ensures { Adds (in_node 0 nodes genesis (seen (λ t. below t assign genesis (rule33 t)) nodes 0 state)) 2048 out count result }
+    ensures { Adds (in_node 0 nodes.now genesis (seen (λ t. below t assign genesis (rule33 t)) nodes.now 0 state.now)) 2048 out.old out.new count result }
 {
     let to = nodes::end(nodes, 0, genesis);
     let mut total = count;
@@ -195,7 +195,7 @@ fn clause(
     count: usize,
 ) -> usize
     requires { AssetMarks nodes.now state.now declared.now known.now × In nodes.now 0 p × (count < 2 ^ 50) × (entry < 2048) }
-    ensures { Adds (in_node entry nodes p (listed (λ t. clause36 t p) nodes state declared known)) 2048 out count result }
+    ensures { Adds (in_node entry nodes.now p (listed (λ t. clause36 t p) nodes.now state.now declared.now known.now)) 2048 out.old out.new count result }
 {
     match nodes::kind(nodes, 0, p) {
         WRITES..=READS => within(Rule(NAME, false, 36), nodes, p, entry, state, out, count),
@@ -218,7 +218,7 @@ pub fn clauses(
     count: usize,
 ) -> usize
     requires { AssetMarks nodes.now state.now declared.now known.now × Head nodes.now 0 entry to × (count < 2 ^ 45) }
-    ensures { Adds (listed (λ t. below t naming entry (clause_rules t)) nodes state declared known) (2048 * 2048) out count result }
+    ensures { Adds (listed (λ t. below t naming entry (clause_rules t)) nodes.now state.now declared.now known.now) (2048 * 2048) out.old out.new count result }
 {
     let mut total = count;
     let mut children = Cursor {

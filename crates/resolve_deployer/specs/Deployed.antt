@@ -6,7 +6,6 @@ use Rattle.rules.specs.Tree as kinds
 use Rattle.rules.specs.Words.{deployer}
 use Rattle.rules.specs.Vocabulary.{Rec, below}
 use Rattle.rules.specs.Resolve.{rule32, deployer_of}
-use Rattle.records.specs.Words.{Lent, old}
 use Rattle.records.specs.Records.{Entered, on}
 use Rattle.nodes.specs.Shown.{View, In, tree_of}
 use Rattle.nodes.specs.Marks.{Marks}
@@ -39,8 +38,8 @@ abbrev pub item32 : Tree → ℕ → List Rec
 item32 t p = keep (has (t.kind p) kinds.invariant_entry) (deployer_of t) p
 
 -- what F says of the tree of the nodes that are lent
-abbrev pub deployed : (Tree → List Rec) → (nodes : Lent (List ℕ)) (base : ℕ) (marks : Lent (List Bool)) → Deployed (old nodes) base (old marks) → Entered
+abbrev pub deployed : (Tree → List Rec) → (nodes : List ℕ) (base : ℕ) (marks : List Bool) → Deployed nodes base marks → Entered
 deployed F nodes base marks T = on F (tree_of T.view)
 
-abbrev pub by_deployer : (Tree → List Rec) → (nodes : Lent (List ℕ)) (number : ℕ) → DeployerIs (old nodes) number → Entered
+abbrev pub by_deployer : (Tree → List Rec) → (nodes : List ℕ) (number : ℕ) → DeployerIs nodes number → Entered
 by_deployer F nodes number T = on F (tree_of T.view)

@@ -1,4 +1,5 @@
 // Code 32 of document 01, `deployer`: the signers, statements and clauses of entries, and the Invariants.
+#![tactic(auto)]
 ghost use Rattle.std.specs.Prelude.{◌*◌, ◌<◌, ◌^◌};
 ghost use Rattle.rules.specs.Tree.{limits_denies_after};
 ghost use Rattle.rules.specs.Vocabulary.{below};
@@ -23,7 +24,7 @@ fn clause32(
     count: usize,
 ) -> usize
     requires { Deployed nodes.now 0 deployer.now × In nodes.now 0 p × (count < 2 ^ 50) × (entry < 2048) }
-    ensures { Adds (in_node entry nodes p (deployed (λ t. clause32 t p) nodes 0 deployer)) 2048 out count result }
+    ensures { Adds (in_node entry nodes.now p (deployed (λ t. clause32 t p) nodes.now 0 deployer.now)) 2048 out.old out.new count result }
 {
     match nodes::kind(nodes, 0, p) {
         LIMITS..=AFTER => resolve_clauses::within(
@@ -49,7 +50,7 @@ fn clauses32(
     count: usize,
 ) -> usize
     requires { Deployed nodes.now 0 deployer.now × Head nodes.now 0 entry to × (count < 2 ^ 45) }
-    ensures { Adds (deployed (λ t. below t limits_denies_after entry (ident_rules t)) nodes 0 deployer) (2048 * 2048) out count result }
+    ensures { Adds (deployed (λ t. below t limits_denies_after entry (ident_rules t)) nodes.now 0 deployer.now) (2048 * 2048) out.old out.new count result }
 {
     let mut total = count;
     let mut children = Cursor {
@@ -67,7 +68,7 @@ fn clauses32(
 // 32 in an entry: its signers, the Idents of its statements, lent as their own part of the node area, and of its clauses.
 fn entry32(nodes: &[u8], entry: usize, deployer: &Marks, out: &mut [u16], count: usize) -> usize
     requires { Deployed nodes.now 0 deployer.now × IsEntry nodes.now entry × (count < 2 ^ 44) }
-    ensures { Adds (deployed (λ t. deployer_in t entry) nodes 0 deployer) (2 ^ 23) out count result }
+    ensures { Adds (deployed (λ t. deployer_in t entry) nodes.now 0 deployer.now) (2 ^ 23) out.old out.new count result }
 {
     let first = items::first_statement(nodes, 0, entry);
     let signed = resolve_clauses::signers(
@@ -98,7 +99,7 @@ fn entry32(nodes: &[u8], entry: usize, deployer: &Marks, out: &mut [u16], count:
 // 32 in an item, if it is an Entry or an Invariant.
 fn item32(nodes: &[u8], item: usize, deployer: &Marks, out: &mut [u16], count: usize) -> usize
     requires { Deployed nodes.now 0 deployer.now × In nodes.now 0 item × (0 < item) × (count < 2 ^ 44) }
-    ensures { Adds (deployed (λ t. item32 t item) nodes 0 deployer) (2 ^ 23) out count result }
+    ensures { Adds (deployed (λ t. item32 t item) nodes.now 0 deployer.now) (2 ^ 23) out.old out.new count result }
 {
     match nodes::kind(nodes, 0, item) {
         ENTRY => entry32(nodes, item, deployer, out, count),
@@ -118,7 +119,7 @@ fn item32(nodes: &[u8], item: usize, deployer: &Marks, out: &mut [u16], count: u
 // 32: the items in order.
 fn items32(nodes: &[u8], deployer: &Marks, out: &mut [u16], count: usize) -> usize
     requires { Deployed nodes.now 0 deployer.now × In nodes.now 0 0 × (count < 2 ^ 40) }
-    ensures { Adds (deployed group32 nodes 0 deployer) (2 ^ 34) out count result }
+    ensures { Adds (deployed group32 nodes.now 0 deployer.now) (2 ^ 34) out.old out.new count result }
 {
     let to = nodes::end(nodes, 0, 0);
     let mut total = count;
@@ -137,7 +138,7 @@ fn items32(nodes: &[u8], deployer: &Marks, out: &mut [u16], count: usize) -> usi
 // 32, `deployer`, which has this number; nothing where that is 0, since then no name of the image is this word.
 pub fn group32(nodes: &[u8], number: usize, out: &mut [u16], count: usize) -> usize
     requires { DeployerIs nodes.now number × In nodes.now 0 0 × (count < 2 ^ 40) }
-    ensures { Adds (by_deployer group32 nodes number) (2 ^ 34) out count result }
+    ensures { Adds (by_deployer group32 nodes.now number) (2 ^ 34) out.old out.new count result }
 {
     if number == 0 {
         return count;

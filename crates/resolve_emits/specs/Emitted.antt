@@ -4,7 +4,6 @@ use Rattle.rules.specs.Sweep.{keep, has}
 use Rattle.rules.specs.Tree.{Tree, event, emit}
 use Rattle.rules.specs.Vocabulary.{Rec}
 use Rattle.rules.specs.Resolve.{rule30, rule31}
-use Rattle.records.specs.Words.{Lent, old}
 use Rattle.records.specs.Records.{Entered, on}
 use Rattle.nodes.specs.Shown.{View, Shown, In, tree_of}
 use Rattle.nodes.specs.Statements.{Statements}
@@ -35,8 +34,8 @@ abbrev pub at30 : ℕ → Tree → List Rec
 at30 p t = keep (has (t.kind p) emit) (emit_rules t) p
 
 -- what F says of the tree of the nodes that are lent, by each of these
-abbrev pub emitting : (Tree → List Rec) → (nodes : Lent (List ℕ)) (base : ℕ) (last : Lent (List ℕ)) → EventNotes (old nodes) base (old last) → Entered
+abbrev pub emitting : (Tree → List Rec) → (nodes : List ℕ) (base : ℕ) (last : List ℕ) → EventNotes nodes base last → Entered
 emitting F nodes base last T = on F (tree_of T.view)
 
-abbrev pub emitted : (Tree → List Rec) → (nodes : Lent (List ℕ)) (base : ℕ) (area last : Lent (List ℕ)) → Emitted (old nodes) base (old area) (old last) → Entered
+abbrev pub emitted : (Tree → List Rec) → (nodes : List ℕ) (base : ℕ) (area last : List ℕ) → Emitted nodes base area last → Entered
 emitted F nodes base area last T = on F (tree_of T.body.view)

@@ -1,9 +1,9 @@
 // One Emit: codes 30 and 31 of document 01.
+#![tactic(auto)]
 ghost use Rattle.std.specs.Prelude.{◌≡◌, ◌<◌, ◌^◌, length};
 ghost use Rattle.rules.specs.Tree.{event_param};
 ghost use Rattle.rules.specs.Vocabulary.{alone, below, arguments};
 ghost use Rattle.rules.specs.Resolve.{rule30, rule31};
-ghost use Rattle.records.specs.Words.{old};
 ghost use Rattle.records.specs.Records.{Adds, Asks};
 ghost use Rattle.nodes.specs.Shown.{View, In, tree_of};
 ghost use Rattle.nodes.specs.Entries.{in_part};
@@ -15,7 +15,7 @@ use places::Places;
 // The number of arguments of an Emit: a cursor over its children after the Name, moved past one child at each step.
 fn arguments(area: &[u8], emit: usize) -> usize
     requires { View area.now 0 × IsKind area.now 0 emit 26 }
-    ensures { (W : View (old area) 0) → result ≡ length (arguments (tree_of W) emit alone) }
+    ensures { (W : View area.now 0) → result ≡ length (arguments (tree_of W) emit alone) }
 {
     let end = nodes::end(area, 0, emit);
     let mut number = 0;
@@ -34,7 +34,7 @@ fn arguments(area: &[u8], emit: usize) -> usize
 // The number of parameters of an event: each is one node, after the Name.
 fn parameters(nodes: &[u8], event: usize) -> usize
     requires { View nodes.now 0 × IsKind nodes.now 0 event 5 }
-    ensures { (W : View (old nodes) 0) → result ≡ length (below (tree_of W) event_param event alone) }
+    ensures { (W : View nodes.now 0) → result ≡ length (below (tree_of W) event_param event alone) }
 {
     nodes::end(nodes, 0, event) - (event + 2)
 }
@@ -42,7 +42,7 @@ fn parameters(nodes: &[u8], event: usize) -> usize
 // 30 at an Emit: its event is not declared.
 fn rule30(nodes: &[u8], base: usize, emit: usize, last: &Places) -> bool
     requires { EventNotes nodes.now base last.now × IsKind nodes.now base emit 26 }
-    ensures { Asks (emitting (λ t. rule30 t emit) nodes base last) 30 emit result }
+    ensures { Asks (emitting (λ t. rule30 t emit) nodes.now base last.now) 30 emit result }
 {
     places::at(last, nodes, base, emit + 1) == 0
 }
@@ -50,7 +50,7 @@ fn rule30(nodes: &[u8], base: usize, emit: usize, last: &Places) -> bool
 // 31 at an Emit: it has another number of arguments than the last event of its name has parameters.
 fn rule31(nodes: &[u8], base: usize, emit: usize, area: &[u8], last: &Places) -> bool
     requires { Emitted nodes.now base area.now last.now × IsKind nodes.now base emit 26 }
-    ensures { Asks (emitted (λ t. rule31 t emit) nodes base area last) 31 emit result }
+    ensures { Asks (emitted (λ t. rule31 t emit) nodes.now base area.now last.now) 31 emit result }
 {
     let event = places::at(last, nodes, base, emit + 1);
     if event == 0 {
@@ -71,7 +71,7 @@ pub fn emit(
     count: usize,
 ) -> usize
     requires { Emitted nodes.now base area.now last.now × In nodes.now base p × (count < 2 ^ 55) × (entry < 2048) }
-    ensures { Adds (in_part entry nodes base (emitted (at30 p) nodes base area last)) 2 out count result }
+    ensures { Adds (in_part entry nodes.now base (emitted (at30 p) nodes.now base area.now last.now)) 2 out.old out.new count result }
 {
     if nodes::kind(nodes, base, p) != EMIT {
         return count;

@@ -3,7 +3,6 @@ use Rattle.std.specs.Prelude.{ℕ, ◌-◌, ◌≡◌, true, List, [], ◌∷◌
 use Rattle.rules.specs.Sweep.{run, keep, has}
 use Rattle.rules.specs.Tree.{Tree, bodied, emit}
 use Rattle.rules.specs.Vocabulary.{Rec, below}
-use Rattle.records.specs.Words.{Lent, old}
 use Rattle.records.specs.Records.{Entered, on}
 use Rattle.nodes.specs.Shown.{In, tree_of}
 use Rattle.resolve_emits.specs.Emitted.{EventNotes, Emitted, emit_rules, at30}
@@ -22,8 +21,8 @@ abbrev pub item30 : ℕ → ℕ → Tree → List Rec
 item30 k p t = keep (has (t.kind p) (k ∷ [])) (λ i. below t emit i (emit_rules t)) p
 
 -- at all of an item's statements that are lent; what F says of the tree of the contract
-abbrev pub swept30 : (nodes : Lent (List ℕ)) (base : ℕ) (area last : Lent (List ℕ)) → Emitted (old nodes) base (old area) (old last) → Entered
+abbrev pub swept30 : (nodes : List ℕ) (base : ℕ) (area last : List ℕ) → Emitted nodes base area last → Entered
 swept30 nodes base area last T = on (λ t. run (λ p. at30 p t) base (T.body.view.upto - base)) (tree_of T.body.view)
 
-abbrev pub events : (Tree → List Rec) → (nodes last : Lent (List ℕ)) → Events (old nodes) (old last) → Entered
+abbrev pub events : (Tree → List Rec) → (nodes last : List ℕ) → Events nodes last → Entered
 events F nodes last T = on F (tree_of T.emitting.view)

@@ -1,8 +1,8 @@
 // The Emits of a contract: codes 30 and 31 of document 01, item by item.
+#![tactic(auto)]
 ghost use Rattle.std.specs.Prelude.{◌≡◌, false, [], ◌∷◌, ◌*◌, ◌<◌, ◌^◌};
 ghost use Rattle.rules.specs.Tree.{event, genesis};
 ghost use Rattle.rules.specs.Resolve.{emits, group30};
-ghost use Rattle.records.specs.Words.{old};
 ghost use Rattle.records.specs.Records.{Adds, on};
 ghost use Rattle.nodes.specs.Shown.{View, In, tree_of};
 ghost use Rattle.nodes.specs.Items.{NoItem};
@@ -29,7 +29,7 @@ fn statements(
     count: usize,
 ) -> usize
     requires { Emitted nodes.now base area.now last.now × (count < 2 ^ 50) × (entry < 2048) }
-    ensures { Adds (in_part entry nodes base (swept30 nodes base area last)) 4096 out count result }
+    ensures { Adds (in_part entry nodes.now base (swept30 nodes.now base area.now last.now)) 4096 out.old out.new count result }
 {
     let end = base + nodes.len() / 16;
     let mut total = count;
@@ -55,7 +55,7 @@ fn item(
     count: usize,
 ) -> usize
     requires { Events nodes.now last.now × Bodied kind × In nodes.now 0 item × (0 < item) × (count < 2 ^ 50) }
-    ensures { Adds (events (item30 kind item) nodes last) 4096 out count result }
+    ensures { Adds (events (item30 kind item) nodes.now last.now) 4096 out.old out.new count result }
 {
     if nodes::kind(nodes, 0, item) != kind {
         return count;
@@ -69,7 +69,7 @@ fn item(
 // 30 and 31 in the items of this kind, in order.
 fn emits(kind: usize, nodes: &[u8], last: &Places, out: &mut [u16], count: usize) -> usize
     requires { Events nodes.now last.now × Bodied kind × (count < 2 ^ 45) }
-    ensures { Adds (events (λ t. emits t (kind ∷ [])) nodes last) (4096 * 2048) out count result }
+    ensures { Adds (events (λ t. emits t (kind ∷ [])) nodes.now last.now) (4096 * 2048) out.old out.new count result }
 {
     let end = nodes::end(nodes, 0, 0);
     let mut total = count;
@@ -88,7 +88,7 @@ fn emits(kind: usize, nodes: &[u8], last: &Places, out: &mut [u16], count: usize
 // The last event of each name is noted; nothing is where the contract has no Event.
 fn note_events(has: bool, nodes: &[u8], last: &mut Places)
     requires { View nodes.now 0 × In nodes.now 0 0 × (has ≡ false → NoItem event nodes.now) }
-    ensures { Notes (λ (W : View (old nodes) 0). notes_below Last (tree_of W) event 0) last }
+    ensures { Notes (λ (W : View nodes.now 0). notes_below Last (tree_of W) event 0) last.old last.new }
 {
     if !has {
         return;
@@ -99,7 +99,7 @@ fn note_events(has: bool, nodes: &[u8], last: &mut Places)
 // 30 and 31 in each Genesis; nothing where the contract has none.
 fn genesis_emits(has: bool, nodes: &[u8], last: &Places, out: &mut [u16], count: usize) -> usize
     requires { Events nodes.now last.now × (count < 2 ^ 45) × (has ≡ false → NoItem genesis nodes.now) }
-    ensures { Adds (events (λ t. emits t genesis) nodes last) (4096 * 2048) out count result }
+    ensures { Adds (events (λ t. emits t genesis) nodes.now last.now) (4096 * 2048) out.old out.new count result }
 {
     if !has {
         return count;
@@ -110,7 +110,7 @@ fn genesis_emits(has: bool, nodes: &[u8], last: &Places, out: &mut [u16], count:
 // 30 and 31: the entries, then each Genesis.
 pub fn group30(nodes: &[u8], items: Items, out: &mut [u16], count: usize) -> usize
     requires { View nodes.now 0 × In nodes.now 0 0 × (count < 2 ^ 40) × ItemsOf nodes.now items }
-    ensures { Adds (λ (W : View (old nodes) 0). on group30 (tree_of W)) (2 * 4096 * 2048) out count result }
+    ensures { Adds (λ (W : View nodes.now 0). on group30 (tree_of W)) (2 * 4096 * 2048) out.old out.new count result }
 {
     let mut last = [0u16; Image::NAMES];
     note_events(items.event, nodes, &mut last);

@@ -5,7 +5,6 @@ use Rattle.rules.specs.Tree.{Tree, ident, param, statement, «let»}
 use Rattle.rules.specs.Vocabulary.{Rec, below}
 use Rattle.rules.specs.Model.{is_state}
 use Rattle.rules.specs.Resolve.{rule26, rule29, let_rules}
-use Rattle.records.specs.Words.{Lent, old, new}
 use Rattle.records.specs.Records.{Entered, on}
 use Rattle.nodes.specs.Shown.{tree_of}
 use Rattle.nodes.specs.Marks.{Marks}
@@ -46,14 +45,14 @@ abbrev pub statement_names : Tree → ℕ → ℕ → List Rec
 statement_names t e s = idents26 s t e ++ at27 s t e
 
 -- what F says of the tree of the statements that are lent, and of the entry
-abbrev pub seen_lets : (Tree → ℕ → List Rec) → (nodes : Lent (List ℕ)) (base : ℕ) (lets : Lent (List ℕ)) → Lets (old nodes) base (old lets) → Entered
+abbrev pub seen_lets : (Tree → ℕ → List Rec) → (nodes : List ℕ) (base : ℕ) (lets : List ℕ) → Lets nodes base lets → Entered
 seen_lets F nodes base lets T = on (λ t. F t T.body.item) (tree_of T.body.view)
 
-abbrev pub seen_body : (Tree → ℕ → List Rec) → (nodes : Lent (List ℕ)) (base : ℕ) (state : Lent (List Bool)) (params lets : Lent (List ℕ)) → NamingBody (old nodes) base (old state) (old params) (old lets) → Entered
+abbrev pub seen_body : (Tree → ℕ → List Rec) → (nodes : List ℕ) (base : ℕ) (state : List Bool) (params lets : List ℕ) → NamingBody nodes base state params lets → Entered
 seen_body F nodes base state params lets T = on (λ t. F t T.scope.body.item) (tree_of T.scope.body.view)
 
 -- 26 to 29 in all of the statements that are lent
-abbrev pub swept26 : (nodes : Lent (List ℕ)) (base : ℕ) (state : Lent (List Bool)) (params lets : Lent (List ℕ)) → NamingBody (old nodes) base (old state) (old params) (old lets) → Entered
+abbrev pub swept26 : (nodes : List ℕ) (base : ℕ) (state : List Bool) (params lets : List ℕ) → NamingBody nodes base state params lets → Entered
 swept26 nodes base state params lets T =
     let W = T.scope.body.view in
     on (λ t. run (λ s. keep (has (t.kind s) statement) (statement_names t T.scope.body.item) s) base (W.upto - base)) (tree_of W)
@@ -68,8 +67,8 @@ pub record Scope (nodes : List ℕ) (entry : ℕ) (state : List Bool) (params le
   pub clean : Places lent.named.view.image (λ w. 0) lets
 
 -- 26 to 29 in it; the table notes nothing afterwards
-abbrev pub scoped : (entry : ℕ) (nodes : Lent (List ℕ)) (state : Lent (List Bool)) (params lets : Lent (List ℕ)) → Scope (old nodes) entry (old state) (old params) (old lets) → Entered
+abbrev pub scoped : (entry : ℕ) (nodes : List ℕ) (state : List Bool) (params lets : List ℕ) → Scope nodes entry state params lets → Entered
 scoped entry nodes state params lets T = on (λ t. below t statement entry (statement_names t entry)) (tree_of T.lent.named.view)
 
-abbrev pub CleansLets : (nodes : Lent (List ℕ)) (entry : ℕ) (state : Lent (List Bool)) (params lets : Lent (List ℕ)) → Type 0
-CleansLets nodes entry state params lets = (T : Scope (old nodes) entry (old state) (old params) (old lets)) → Places T.lent.named.view.image (λ w. 0) (new lets)
+abbrev pub CleansLets : (nodes : List ℕ) (entry : ℕ) (state : List Bool) (params lets lets' : List ℕ) → Type 0
+CleansLets nodes entry state params lets lets' = (T : Scope nodes entry state params lets) → Places T.lent.named.view.image (λ w. 0) lets'

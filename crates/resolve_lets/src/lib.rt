@@ -1,6 +1,6 @@
 // An entry's Lets and what is named before its Let: codes 26 to 29 of document 01.
+#![tactic(auto)]
 ghost use Rattle.std.specs.Prelude.{◌≡◌, false, ◌*◌, ◌<◌, ◌^◌};
-ghost use Rattle.records.specs.Words.{old};
 ghost use Rattle.records.specs.Records.{Adds, Asks};
 ghost use Rattle.nodes.specs.Entries.{in_part};
 ghost use Rattle.nodes.specs.Shown.{View, In, tree_of};
@@ -14,7 +14,7 @@ use places::{Note, Places};
 // 26 at a node of the statement s: an Ident naming a Let of this body with no such Let in an earlier statement.
 fn rule26(nodes: &[u8], base: usize, s: usize, p: usize, lets: &Places) -> bool
     requires { Lets nodes.now base lets.now × In nodes.now base p × (0 < s) }
-    ensures { Asks (seen_lets (at26 s p) nodes base lets) 26 p result }
+    ensures { Asks (seen_lets (at26 s p) nodes.now base lets.now) 26 p result }
 {
     if nodes::kind(nodes, base, p) != IDENT {
         return false;
@@ -33,7 +33,7 @@ fn idents(
     count: usize,
 ) -> usize
     requires { Lets nodes.now base lets.now × In nodes.now base s × (count < 2 ^ 50) × (entry < 2048) }
-    ensures { Adds (in_part entry nodes base (seen_lets (idents26 s) nodes base lets)) 2048 out count result }
+    ensures { Adds (in_part entry nodes.now base (seen_lets (idents26 s) nodes.now base lets.now)) 2048 out.old out.new count result }
 {
     let end = nodes::end(nodes, base, s);
     let mut total = count;
@@ -48,7 +48,7 @@ fn idents(
 // 29 at the statement s: a Let whose name is that of a parameter.
 fn rule29(nodes: &[u8], base: usize, s: usize, params: &Places) -> bool
     requires { Among nodes.now base 10 s params.now × In nodes.now base s }
-    ensures { Asks (seen_among (at29 s) nodes base 10 s params) 29 s result }
+    ensures { Asks (seen_among (at29 s) nodes.now base 10 s params.now) 29 s result }
 {
     if nodes::kind(nodes, base, s) != LET {
         return false;
@@ -69,7 +69,7 @@ fn let_names(
     count: usize,
 ) -> usize
     requires { NamingBody nodes.now base state.now params.now lets.now × In nodes.now base s × (count < 2 ^ 50) × (entry < 2048) }
-    ensures { Adds (in_part entry nodes base (seen_body (at27 s) nodes base state params lets)) 3 out count result }
+    ensures { Adds (in_part entry nodes.now base (seen_body (at27 s) nodes.now base state.now params.now lets.now)) 3 out.old out.new count result }
 {
     let earlier = records::emit_hit(
         resolve_names::met(LET, nodes, base, s, lets, 0),
@@ -102,7 +102,7 @@ fn statements(
     count: usize,
 ) -> usize
     requires { NamingBody nodes.now base state.now params.now lets.now × (count < 2 ^ 48) × (entry < 2048) }
-    ensures { Adds (in_part entry nodes base (swept26 nodes base state params lets)) (2051 * 2048) out count result }
+    ensures { Adds (in_part entry nodes.now base (swept26 nodes.now base state.now params.now lets.now)) (2051 * 2048) out.old out.new count result }
 {
     let end = base + nodes.len() / 16;
     let mut total = count;
@@ -123,7 +123,7 @@ fn statements(
 // Whether an entry, whose first statement is `first`, has a Let.
 fn has_let(nodes: &[u8], entry: usize, first: usize) -> bool
     requires { Head nodes.now 0 entry first }
-    ensures { result ≡ false → (W : View (old nodes) 0) → NoLet (tree_of W) entry }
+    ensures { result ≡ false → (W : View nodes.now 0) → NoLet (tree_of W) entry }
 {
     let end = nodes::end(nodes, 0, entry);
     let mut children = Cursor {
@@ -152,8 +152,8 @@ pub fn let_rules(
     count: usize,
 ) -> usize
     requires { Scope nodes.now entry state.now params.now lets.old × Head nodes.now 0 entry first × (count < 2 ^ 48) }
-    ensures adds { Adds (scoped entry nodes state params lets) (2051 * 2048) out count result }
-    ensures cleans_lets { CleansLets nodes entry state params lets }
+    ensures adds { Adds (scoped entry nodes.now state.now params.now lets.old) (2051 * 2048) out.old out.new count result }
+    ensures cleans_lets { CleansLets nodes.now entry state.now params.now lets.old lets.new }
 {
     if !has_let(nodes, entry, first) {
         return count;

@@ -5,7 +5,6 @@ use Rattle.rules.specs.Tree.{Tree, bodied, call}
 use Rattle.rules.specs.Words.{mint_asset}
 use Rattle.rules.specs.Vocabulary.{Rec, calls}
 use Rattle.rules.specs.Resolve.{rule22}
-use Rattle.records.specs.Words.{Lent, old}
 use Rattle.records.specs.Records.{Entered, on}
 use Rattle.nodes.specs.Shown.{View, tree_of}
 use Rattle.names.specs.Found.{Numbered}
@@ -23,8 +22,8 @@ abbrev pub item22 : ℕ → Tree → List Rec
 item22 p t = keep (has (t.kind p) bodied) (λ i. calls t i (rule22 t)) p
 
 -- what F says of the tree of the nodes that are lent; 22 at all of them
-abbrev pub minted : (Tree → List Rec) → (nodes : Lent (List ℕ)) (base mint : ℕ) → Minting (old nodes) base mint → Entered
+abbrev pub minted : (Tree → List Rec) → (nodes : List ℕ) (base mint : ℕ) → Minting nodes base mint → Entered
 minted F nodes base mint T = on F (tree_of T.view)
 
-abbrev pub swept22 : (nodes : Lent (List ℕ)) (base mint : ℕ) → Minting (old nodes) base mint → Entered
+abbrev pub swept22 : (nodes : List ℕ) (base mint : ℕ) → Minting nodes base mint → Entered
 swept22 nodes base mint T = on (λ t. run (λ p. at22 p t) base (T.view.upto - base)) (tree_of T.view)

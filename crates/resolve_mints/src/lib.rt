@@ -1,7 +1,7 @@
 // Calls of `mint_asset` where there is over one Asset item: code 22 of document 01.
+#![tactic(auto)]
 ghost use Rattle.std.specs.Prelude.{◌≡◌, ◌*◌, ◌<◌, ◌^◌};
 ghost use Rattle.rules.specs.Resolve.{many_assets, mint_calls, group22};
-ghost use Rattle.records.specs.Words.{old};
 ghost use Rattle.records.specs.Records.{Adds, Asks};
 ghost use Rattle.nodes.specs.Shown.{View, In, tree_of};
 ghost use Rattle.nodes.specs.Entries.{in_part};
@@ -12,7 +12,7 @@ use nodes::{ASSET, CALL, Cursor, IDENT};
 // 22 at a node of an item's statements: a Call of Ident `mint_asset`, which has the number `mint`.
 fn rule22(nodes: &[u8], base: usize, p: usize, mint: usize) -> bool
     requires { Minting nodes.now base mint × In nodes.now base p }
-    ensures { Asks (minted (at22 p) nodes base mint) 22 p result }
+    ensures { Asks (minted (at22 p) nodes.now base mint) 22 p result }
 {
     if nodes::kind(nodes, base, p) != CALL {
         return false;
@@ -33,7 +33,7 @@ fn calls22(
     count: usize,
 ) -> usize
     requires { Minting nodes.now base mint × (count < 2 ^ 50) × (entry < 2048) }
-    ensures { Adds (in_part entry nodes base (swept22 nodes base mint)) 2048 out count result }
+    ensures { Adds (in_part entry nodes.now base (swept22 nodes.now base mint)) 2048 out.old out.new count result }
 {
     let end = base + nodes.len() / 16;
     let mut total = count;
@@ -48,7 +48,7 @@ fn calls22(
 // 22 in an item, if it holds statements.
 fn item22(nodes: &[u8], item: usize, mint: usize, out: &mut [u16], count: usize) -> usize
     requires { Minting nodes.now 0 mint × In nodes.now 0 item × (0 < item) × (count < 2 ^ 50) }
-    ensures { Adds (minted (item22 item) nodes 0 mint) 2048 out count result }
+    ensures { Adds (minted (item22 item) nodes.now 0 mint) 2048 out.old out.new count result }
 {
     let kind = nodes::kind(nodes, 0, item);
     if !items::is_bodied(kind) {
@@ -63,7 +63,7 @@ fn item22(nodes: &[u8], item: usize, mint: usize, out: &mut [u16], count: usize)
 // 22: the items in order.
 fn mint_calls(nodes: &[u8], mint: usize, out: &mut [u16], count: usize) -> usize
     requires { Minting nodes.now 0 mint × In nodes.now 0 0 × (count < 2 ^ 40) }
-    ensures { Adds (minted mint_calls nodes 0 mint) (2048 * 2048) out count result }
+    ensures { Adds (minted mint_calls nodes.now 0 mint) (2048 * 2048) out.old out.new count result }
 {
     let end = nodes::end(nodes, 0, 0);
     let mut total = count;
@@ -82,7 +82,7 @@ fn mint_calls(nodes: &[u8], mint: usize, out: &mut [u16], count: usize) -> usize
 // Whether there is over one Asset item: items are counted, not names.
 fn many_assets(nodes: &[u8]) -> bool
     requires { View nodes.now 0 × In nodes.now 0 0 }
-    ensures { (W : View (old nodes) 0) → result ≡ many_assets (tree_of W) }
+    ensures { (W : View nodes.now 0) → result ≡ many_assets (tree_of W) }
 {
     let end = nodes::end(nodes, 0, 0);
     let mut asset = 0;
@@ -103,7 +103,7 @@ fn many_assets(nodes: &[u8]) -> bool
 // 22; nothing where the image has no name `mint_asset`.
 pub fn group22(nodes: &[u8], mint: usize, out: &mut [u16], count: usize) -> usize
     requires { Minting nodes.now 0 mint × In nodes.now 0 0 × (count < 2 ^ 40) }
-    ensures { Adds (minted group22 nodes 0 mint) (2048 * 2048) out count result }
+    ensures { Adds (minted group22 nodes.now 0 mint) (2048 * 2048) out.old out.new count result }
 {
     if mint < 1 {
         return count;

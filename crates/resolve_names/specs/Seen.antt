@@ -4,7 +4,6 @@ use Rattle.rules.specs.Sweep.{keep, has}
 use Rattle.rules.specs.Tree.{Tree}
 use Rattle.rules.specs.Vocabulary.{Rec, rec, only, first_named}
 use Rattle.rules.specs.Model.{is_state}
-use Rattle.records.specs.Words.{Lent, old}
 use Rattle.records.specs.Records.{Entered, on}
 use Rattle.nodes.specs.Shown.{View, tree_of}
 use Rattle.places.specs.Places.{Places, first_of}
@@ -33,5 +32,5 @@ abbrev pub at_state : ℕ → ℕ → List ℕ → ℕ → Tree → List Rec
 at_state code place ks p t = keep (has (t.kind p) ks) (state_rule code place t) p
 
 -- what F says of the tree of the nodes that are lent, and of the holder
-abbrev pub seen_among : (Tree → ℕ → List Rec) → (nodes : Lent (List ℕ)) (base kind p : ℕ) (firsts : Lent (List ℕ)) → Among (old nodes) base kind p (old firsts) → Entered
+abbrev pub seen_among : (Tree → ℕ → List Rec) → (nodes : List ℕ) (base kind p : ℕ) (firsts : List ℕ) → Among nodes base kind p firsts → Entered
 seen_among F nodes base kind p firsts T = on (λ t. F t T.holder) (tree_of T.view)

@@ -1,9 +1,9 @@
 // Names met before and state names: what is asked of a node's name, and codes 20 and 21 of document 01.
+#![tactic(auto)]
 ghost use Rattle.std.specs.Prelude.{◌≡◌, false, ◌⊎◌, [], ◌∷◌, ℕ, ◌+◌, ◌<◌, ◌≤◌, ◌^◌};
 ghost use Rattle.rules.specs.Tree.{event};
 ghost use Rattle.rules.specs.Vocabulary.{below};
 ghost use Rattle.rules.specs.Resolve.{group20, group21};
-ghost use Rattle.records.specs.Words.{old};
 ghost use Rattle.records.specs.Records.{Adds, Asks, AsksAt, on};
 ghost use Rattle.nodes.specs.Shown.{View, In, tree_of};
 ghost use Rattle.nodes.specs.First.{NameFirst, Declaring};
@@ -19,7 +19,7 @@ use records::Hit;
 // 20, 21, 25 and 27 at a node, if it is of this kind: its name is met before. Related: the first of that name, or with `name` 1 its Name.
 pub fn met(kind: usize, nodes: &[u8], base: usize, p: usize, firsts: &Places, name: usize) -> Hit
     requires { NameFirst kind × Among nodes.now base kind p firsts.now × In nodes.now base p × (name ≤ 1) }
-    ensures { (code : ℕ) → AsksAt (seen_among (at_met code (kind ∷ []) name p) nodes base kind p firsts) code (p + name) result }
+    ensures { (code : ℕ) → AsksAt (seen_among (at_met code (kind ∷ []) name p) nodes.now base kind p firsts.now) code (p + name) result }
 {
     if nodes::kind(nodes, base, p) != kind {
         return Hit::Nothing;
@@ -34,7 +34,7 @@ pub fn met(kind: usize, nodes: &[u8], base: usize, p: usize, firsts: &Places, na
 // The fields or the events whose name is met before: they stand in no entry.
 fn repeated(kind: usize, code: u16, nodes: &[u8], out: &mut [u16], count: usize) -> usize
     requires { Declaring kind × View nodes.now 0 × In nodes.now 0 0 × (count < 2 ^ 50) × ((kind ≡ 4) ⊎ (kind ≡ 5)) }
-    ensures { Adds (λ (W : View (old nodes) 0). on (λ t. below t (kind ∷ []) 0 (met_rule code (kind ∷ []) 1 t 0)) (tree_of W)) 2048 out count result }
+    ensures { Adds (λ (W : View nodes.now 0). on (λ t. below t (kind ∷ []) 0 (met_rule code (kind ∷ []) 1 t 0)) (tree_of W)) 2048 out.old out.new count result }
 {
     let mut firsts = [0u16; Image::NAMES];
     places::note_names(Note::First, kind, nodes, &mut firsts);
@@ -58,7 +58,7 @@ fn repeated(kind: usize, code: u16, nodes: &[u8], out: &mut [u16], count: usize)
 // 20: field name met before.
 pub fn group20(nodes: &[u8], out: &mut [u16], count: usize) -> usize
     requires { View nodes.now 0 × In nodes.now 0 0 × (count < 2 ^ 50) }
-    ensures { Adds (λ (W : View (old nodes) 0). on group20 (tree_of W)) 2048 out count result }
+    ensures { Adds (λ (W : View nodes.now 0). on group20 (tree_of W)) 2048 out.old out.new count result }
 {
     repeated(FIELD_DECL, 20, nodes, out, count)
 }
@@ -66,7 +66,7 @@ pub fn group20(nodes: &[u8], out: &mut [u16], count: usize) -> usize
 // 21: event name met before; nothing where the contract has no Event.
 pub fn group21(has: bool, nodes: &[u8], out: &mut [u16], count: usize) -> usize
     requires { View nodes.now 0 × In nodes.now 0 0 × (count < 2 ^ 50) × (has ≡ false → NoItem event nodes.now) }
-    ensures { Adds (λ (W : View (old nodes) 0). on group21 (tree_of W)) 2048 out count result }
+    ensures { Adds (λ (W : View nodes.now 0). on group21 (tree_of W)) 2048 out.old out.new count result }
 {
     if !has {
         return count;
@@ -77,7 +77,7 @@ pub fn group21(has: bool, nodes: &[u8], out: &mut [u16], count: usize) -> usize
 // 24 and 28 at a node, if it is of this kind: its name is a state name.
 pub fn is_state(kind: usize, nodes: &[u8], base: usize, p: usize, state: &Marks) -> bool
     requires { NameFirst kind × State nodes.now base state.now × In nodes.now base p }
-    ensures { (code place : ℕ) → Asks (seen (at_state code place (kind ∷ []) p) nodes base state) code place result }
+    ensures { (code place : ℕ) → Asks (seen (at_state code place (kind ∷ []) p) nodes.now base state.now) code place result }
 {
     if nodes::kind(nodes, base, p) != kind {
         return false;

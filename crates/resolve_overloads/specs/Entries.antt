@@ -4,7 +4,6 @@ use Rattle.rules.specs.Sweep.{either, keep, some, also, has}
 use Rattle.rules.specs.Tree.{Tree, entry}
 use Rattle.rules.specs.Vocabulary.{Rec, named}
 use Rattle.rules.specs.Resolve.{rule23}
-use Rattle.records.specs.Words.{Lent, old, new}
 use Rattle.nodes.specs.Shown.{View, In, tree_of}
 use Rattle.nodes.specs.Marks.{Marks}
 
@@ -41,5 +40,5 @@ abbrev pub noted_entry : Tree → ℕ → List ℕ → Bool
 noted_entry t p w = either (earlier t p w) (also (has (t.kind p) entry) (named t w) p)
 
 -- the answer no: no record is due at p, and its name is marked too
-abbrev pub Passes : (nodes : Lent (List ℕ)) (p : ℕ) (seen : Lent (List Bool)) → Bool → Type 0
-Passes nodes p seen r = (S : Seen (old nodes) p (old seen)) → r ≡ false → (at23 p (tree_of S.view) ≡ []) × Marks S.view.image (noted_entry (tree_of S.view) p) (new seen)
+abbrev pub Passes : (nodes : List ℕ) (p : ℕ) (seen seen' : List Bool) → Bool → Type 0
+Passes nodes p seen seen' r = (S : Seen nodes p seen) → r ≡ false → (at23 p (tree_of S.view) ≡ []) × Marks S.view.image (noted_entry (tree_of S.view) p) seen'

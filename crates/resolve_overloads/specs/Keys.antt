@@ -6,7 +6,6 @@ use Rattle.rules.specs.Sweep.{also, has}
 use Rattle.rules.specs.Tree.{Tree, tree, entry}
 use Rattle.rules.specs.Vocabulary.{Rec}
 use Rattle.rules.specs.Resolve.{signature, first_signed}
-use Rattle.records.specs.Words.{Lent, old, new}
 use Rattle.records.specs.Records.{Entered, on}
 use Rattle.nodes.specs.Shown.{View, tree_of, number}
 use Rattle.signature.specs.Keys.{is_param}
@@ -78,8 +77,8 @@ pub record Sought (nodes : List ℕ) (e key : ℕ) (heads links keys : List ℕ)
   pub chains : Chains it.view.image e heads links keys
 
 -- what F says of the tree of the nodes that are lent; and the tables have the item too
-abbrev pub chained : (Tree → List Rec) → (nodes : Lent (List ℕ)) (p : ℕ) (heads links keys : Lent (List ℕ)) → Chained (old nodes) p (old heads) (old links) (old keys) → Entered
+abbrev pub chained : (Tree → List Rec) → (nodes : List ℕ) (p : ℕ) (heads links keys : List ℕ) → Chained nodes p heads links keys → Entered
 chained F nodes p heads links keys C = on F (tree_of C.view)
 
-abbrev pub Chaining : (nodes : Lent (List ℕ)) (p : ℕ) (heads links keys : Lent (List ℕ)) → Type 0
-Chaining nodes p heads links keys = (C : Chained (old nodes) p (old heads) (old links) (old keys)) → Chains C.view.image (p + 1) (new heads) (new links) (new keys)
+abbrev pub Chaining : (nodes : List ℕ) (p : ℕ) (heads heads' links links' keys keys' : List ℕ) → Type 0
+Chaining nodes p heads heads' links links' keys keys' = (C : Chained nodes p heads links keys) → Chains C.view.image (p + 1) heads' links' keys'

@@ -1,10 +1,10 @@
 // Code 23 of document 01: entries whose signature text an earlier entry has. No text is written: texts are equal exactly when the nodes are.
 // Where no two entries have one name there is nothing to compare. Else an entry is compared with those before it that share its key,
 // a number made of its name and its types, and only the first entry of each signature is kept to be compared with.
+#![tactic(auto)]
 ghost use Rattle.std.specs.Prelude.{◌≡◌, false, [], ℕ, ◌+◌, ◌*◌, ◌<◌, ◌≤◌, ◌^◌, ltb, eqb, get_or, set};
 ghost use Rattle.image.specs.Pick.{both};
 ghost use Rattle.rules.specs.Resolve.{signature, first_signed, group23};
-ghost use Rattle.records.specs.Words.{old, new};
 ghost use Rattle.records.specs.Records.{Adds, on};
 ghost use Rattle.nodes.specs.Shown.{View, In, tree_of};
 ghost use Rattle.signature.specs.Alike.{same_node, same_type, signed_as};
@@ -24,7 +24,7 @@ type Keys = [usize; Image::NODES];
 // Whether the nodes p and q are of one kind, carry one name and are as long.
 fn same_node(nodes: &[u8], p: usize, q: usize) -> bool
     requires { View nodes.now 0 × In nodes.now 0 p × In nodes.now 0 q }
-    ensures { (W : View (old nodes) 0) → result ≡ same_node (tree_of W) p q }
+    ensures { (W : View nodes.now 0) → result ≡ same_node (tree_of W) p q }
 {
     if nodes::name(nodes, 0, p) != nodes::name(nodes, 0, q) {
         return false;
@@ -38,7 +38,7 @@ fn same_node(nodes: &[u8], p: usize, q: usize) -> bool
 // Whether the types i and j are the same, node by node.
 fn same_type(nodes: &[u8], i: usize, j: usize) -> bool
     requires { View nodes.now 0 × In nodes.now 0 i × In nodes.now 0 j }
-    ensures { (W : View (old nodes) 0) → result ≡ same_type (tree_of W) i j }
+    ensures { (W : View nodes.now 0) → result ≡ same_type (tree_of W) i j }
 {
     let e = nodes::end(nodes, 0, i);
     let f = nodes::end(nodes, 0, j);
@@ -59,7 +59,7 @@ fn same_type(nodes: &[u8], i: usize, j: usize) -> bool
 // Whether a parameter stands at p, before e.
 fn is_param(nodes: &[u8], p: usize, e: usize) -> bool
     requires { p < e → In nodes.now 0 p }
-    ensures { (W : View (old nodes) 0) → result ≡ both (ltb p e) (eqb ((tree_of W).kind p) 10) }
+    ensures { (W : View nodes.now 0) → result ≡ both (ltb p e) (eqb ((tree_of W).kind p) 10) }
 {
     if e <= p {
         return false;
@@ -70,7 +70,7 @@ fn is_param(nodes: &[u8], p: usize, e: usize) -> bool
 // Whether the entries g and e have one signature: one name, and the same types in order.
 fn same_signature(nodes: &[u8], g: usize, e: usize) -> bool
     requires { Entries nodes.now g e }
-    ensures { (W : View (old nodes) 0) → result ≡ signed_as (tree_of W) e g }
+    ensures { (W : View nodes.now 0) → result ≡ signed_as (tree_of W) e g }
 {
     if nodes::name(nodes, 0, g + 1) != nodes::name(nodes, 0, e + 1) {
         return false;
@@ -114,7 +114,7 @@ fn wide(x: u16) -> usize
 // What node p adds to a key.
 fn token(nodes: &[u8], p: usize) -> usize
     requires { In nodes.now 0 p }
-    ensures { (result < 16777216) × ((W : View (old nodes) 0) → result ≡ token W.image p) }
+    ensures { (result < 16777216) × ((W : View nodes.now 0) → result ≡ token W.image p) }
 {
     image::name(nodes, p) + 65536 * image::kind(nodes, p)
 }
@@ -132,7 +132,7 @@ fn mix(key: usize, x: usize) -> usize
 // A key with the nodes of the type y in it.
 fn type_key(nodes: &[u8], key: usize, y: usize) -> usize
     requires { View nodes.now 0 × In nodes.now 0 y }
-    ensures { (W : View (old nodes) 0) → result ≡ type_key W.image key y }
+    ensures { (W : View nodes.now 0) → result ≡ type_key W.image key y }
 {
     let end = nodes::end(nodes, 0, y);
     let mut k = key;
@@ -147,7 +147,7 @@ fn type_key(nodes: &[u8], key: usize, y: usize) -> usize
 // The key of the entry e, which entries of its signature share.
 fn entry_key(nodes: &[u8], e: usize) -> usize
     requires { EntryAt nodes.now e }
-    ensures { (W : View (old nodes) 0) → result ≡ key_of W.image e }
+    ensures { (W : View nodes.now 0) → result ≡ key_of W.image e }
 {
     let to = nodes::end(nodes, 0, e);
     let mut key = nodes::name(nodes, 0, e + 1);
@@ -180,7 +180,7 @@ fn slot(key: usize) -> usize
 // Whether the entries g and e have one signature: entries of other keys are not compared.
 fn is_signed(nodes: &[u8], g: usize, e: usize, key: usize, keys: &Keys) -> bool
     requires { Likely nodes.now g e key keys.now }
-    ensures { (L : Likely (old nodes) g e key (old keys)) → result ≡ signed_as (tree_of L.pair.view) e g }
+    ensures { (L : Likely nodes.now g e key keys.now) → result ≡ signed_as (tree_of L.pair.view) e g }
 {
     if keys[g] != key {
         return false;
@@ -198,7 +198,7 @@ fn first_signed(
     keys: &Keys,
 ) -> usize
     requires { Sought nodes.now e key heads.now links.now keys.now }
-    ensures { (result ≤ e) × ((S : Sought (old nodes) e key (old heads) (old links) (old keys)) → result ≡ first_signed (tree_of S.it.view) (signature (tree_of S.it.view) e)) }
+    ensures { (result ≤ e) × ((S : Sought nodes.now e key heads.now links.now keys.now) → result ≡ first_signed (tree_of S.it.view) (signature (tree_of S.it.view) e)) }
 {
     let at = slot(key);
     let mut g = wide(heads[at]);
@@ -214,7 +214,7 @@ fn first_signed(
 // An entry is kept: it is the last one of its slot.
 fn enter(entry: usize, key: usize, heads: &mut Heads, links: &mut Links, keys: &mut Keys)
     requires { entry < 2048 }
-    ensures { (new heads ≡ set (old heads) (slot key) entry) × (new links ≡ set (old links) entry (get_or (old heads) (slot key) 0)) × (new keys ≡ set (old keys) entry key) }
+    ensures { (heads.new ≡ set heads.old (slot key) entry) × (links.new ≡ set links.old entry (get_or heads.old (slot key) 0)) × (keys.new ≡ set keys.old entry key) }
 {
     let at = slot(key);
     keys[entry] = key;
@@ -233,8 +233,8 @@ fn entry(
     count: usize,
 ) -> usize
     requires { Chained nodes.now item heads.old links.old keys.old × In nodes.now 0 item × (0 < item) × (count < 2 ^ 60) }
-    ensures adds { Adds (chained (at23 item) nodes item heads links keys) 1 out count result }
-    ensures chaining { Chaining nodes item heads links keys }
+    ensures adds { Adds (chained (at23 item) nodes.now item heads.old links.old keys.old) 1 out.old out.new count result }
+    ensures chaining { Chaining nodes.now item heads.old heads.new links.old links.new keys.old keys.new }
 {
     if nodes::kind(nodes, 0, item) != ENTRY {
         return count;
@@ -265,7 +265,7 @@ fn entries(
     count: usize,
 ) -> usize
     requires { Chained nodes.now 1 heads.old links.old keys.old × In nodes.now 0 0 × (count < 2 ^ 40) }
-    ensures { Adds (chained group23 nodes 1 heads links keys) 2048 out count result }
+    ensures { Adds (chained group23 nodes.now 1 heads.old links.old keys.old) 2048 out.old out.new count result }
 {
     let to = nodes::end(nodes, 0, 0);
     let mut total = count;
@@ -284,7 +284,7 @@ fn entries(
 // The same with tables of its own.
 fn compared(nodes: &[u8], out: &mut [u16], count: usize) -> usize
     requires { View nodes.now 0 × In nodes.now 0 0 × (count < 2 ^ 40) }
-    ensures { Adds (λ (W : View (old nodes) 0). on group23 (tree_of W)) 2048 out count result }
+    ensures { Adds (λ (W : View nodes.now 0). on group23 (tree_of W)) 2048 out.old out.new count result }
 {
     let mut heads = [0u16; 4096];
     let mut links = [0u16; Image::NODES];
@@ -295,7 +295,7 @@ fn compared(nodes: &[u8], out: &mut [u16], count: usize) -> usize
 // Whether the item is an Entry whose name an earlier one has; else its name is marked.
 fn meets(nodes: &[u8], item: usize, seen: &mut Marks) -> bool
     requires { Seen nodes.now item seen.old × In nodes.now 0 0 × In nodes.now 0 item × (0 < item) }
-    ensures { Passes nodes item seen result }
+    ensures { Passes nodes.now item seen.old seen.new result }
 {
     if nodes::kind(nodes, 0, item) != ENTRY {
         return false;
@@ -310,7 +310,7 @@ fn meets(nodes: &[u8], item: usize, seen: &mut Marks) -> bool
 // Whether two entries have one name: if none have, nothing is to be compared.
 fn repeats(nodes: &[u8], seen: &mut Marks) -> bool
     requires { Seen nodes.now 1 seen.old × In nodes.now 0 0 }
-    ensures { (S : Seen (old nodes) 1 (old seen)) → result ≡ false → group23 (tree_of S.view) ≡ [] }
+    ensures { (S : Seen nodes.now 1 seen.old) → result ≡ false → group23 (tree_of S.view) ≡ [] }
 {
     let to = nodes::end(nodes, 0, 0);
     let mut children = Cursor {
@@ -330,7 +330,7 @@ fn repeats(nodes: &[u8], seen: &mut Marks) -> bool
 // The records of group 23.
 pub fn group23(nodes: &[u8], out: &mut [u16], count: usize) -> usize
     requires { View nodes.now 0 × In nodes.now 0 0 × (count < 2 ^ 40) }
-    ensures { Adds (λ (W : View (old nodes) 0). on group23 (tree_of W)) 2048 out count result }
+    ensures { Adds (λ (W : View nodes.now 0). on group23 (tree_of W)) 2048 out.old out.new count result }
 {
     let mut seen = [false; Image::NAMES];
     if !repeats(nodes, &mut seen) {

@@ -4,7 +4,6 @@ use Rattle.rules.specs.Sweep.{keep, has}
 use Rattle.rules.specs.Tree.{Tree, param, entry}
 use Rattle.rules.specs.Vocabulary.{Rec, below}
 use Rattle.rules.specs.Resolve.{rule24, rule25, entry_names}
-use Rattle.records.specs.Words.{Lent, old, new}
 use Rattle.records.specs.Records.{Entered, on}
 use Rattle.nodes.specs.Shown.{tree_of}
 use Rattle.nodes.specs.State.{State}
@@ -25,9 +24,9 @@ abbrev pub item24 : ℕ → Tree → List Rec
 item24 p t = keep (has (t.kind p) entry) (entry_names t) p
 
 -- what F says of the tree of the nodes that are lent
-abbrev pub seen_names : (Tree → List Rec) → (nodes : Lent (List ℕ)) (state : Lent (List Bool)) (params lets : Lent (List ℕ)) → NameTables (old nodes) (old state) (old params) (old lets) → Entered
+abbrev pub seen_names : (Tree → List Rec) → (nodes : List ℕ) (state : List Bool) (params lets : List ℕ) → NameTables nodes state params lets → Entered
 seen_names F nodes state params lets T = on F (tree_of T.named.view)
 
 -- nothing is noted afterwards
-abbrev pub CleansNoted : (nodes : Lent (List ℕ)) (state : Lent (List Bool)) (params lets : Lent (List ℕ)) → Type 0
-CleansNoted nodes state params lets = (T : NameTables (old nodes) (old state) (old params) (old lets)) → NoneNoted T.named (new params) (new lets)
+abbrev pub CleansNoted : (nodes : List ℕ) (state : List Bool) (params params' lets lets' : List ℕ) → Type 0
+CleansNoted nodes state params params' lets lets' = (T : NameTables nodes state params lets) → NoneNoted T.named params' lets'

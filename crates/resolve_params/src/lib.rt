@@ -1,7 +1,7 @@
 // An entry's parameters, codes 24 and 25 of document 01; and 24 to 29, the entries in order.
+#![tactic(auto)]
 ghost use Rattle.std.specs.Prelude.{◌*◌, ◌<◌, ◌^◌};
 ghost use Rattle.rules.specs.Resolve.{group24};
-ghost use Rattle.records.specs.Words.{old};
 ghost use Rattle.records.specs.Records.{Adds, on};
 ghost use Rattle.nodes.specs.Shown.{In, tree_of};
 ghost use Rattle.nodes.specs.First.{Head};
@@ -24,7 +24,7 @@ fn parameters(
     count: usize,
 ) -> usize
     requires { Params nodes.now entry state.now params.now × Head nodes.now 0 entry to × (count < 2 ^ 50) }
-    ensures { Adds (λ (T : Params (old nodes) entry (old state) (old params)). on (λ t. parameter_rules t entry) (tree_of T.named.view)) (2 * 2048) out count result }
+    ensures { Adds (λ (T : Params nodes.now entry state.now params.now). on (λ t. parameter_rules t entry) (tree_of T.named.view)) (2 * 2048) out.old out.new count result }
 {
     let mut total = count;
     let mut children = Cursor {
@@ -66,8 +66,8 @@ fn entry(
     count: usize,
 ) -> usize
     requires { NameTables nodes.now state.now params.old lets.old × In nodes.now 0 item × (0 < item) × (count < 2 ^ 47) }
-    ensures adds { Adds (seen_names (item24 item) nodes state params lets) (2053 * 2048) out count result }
-    ensures cleans_noted { CleansNoted nodes state params lets }
+    ensures adds { Adds (seen_names (item24 item) nodes.now state.now params.old lets.old) (2053 * 2048) out.old out.new count result }
+    ensures cleans_noted { CleansNoted nodes.now state.now params.old params.new lets.old lets.new }
 {
     if nodes::kind(nodes, 0, item) != ENTRY {
         return count;
@@ -83,7 +83,7 @@ fn entry(
 // 24 to 29: the entries in order.
 pub fn group24(nodes: &[u8], state: &Marks, out: &mut [u16], count: usize) -> usize
     requires { State nodes.now 0 state.now × In nodes.now 0 0 × (count < 2 ^ 40) }
-    ensures { Adds (seen group24 nodes 0 state) (2053 * 2048 * 2048) out count result }
+    ensures { Adds (seen group24 nodes.now 0 state.now) (2053 * 2048 * 2048) out.old out.new count result }
 {
     let mut params = [0u16; Image::NAMES];
     let mut lets = [0u16; Image::NAMES];

@@ -1,10 +1,10 @@
 // The signature text of an entry (23 of document 01), written into a lent buffer where there is room, and counted.
 // Code 23 itself, resolve_overloads, writes no text: `same-text-same-nodes` in proofs/Same.antt says that comparing the texts is comparing the nodes.
+#![tactic(auto)]
 ghost use Rattle.std.specs.Prelude.{◌≡◌, List, [], ◌∷◌, ◌++◌, ℕ, ◌+◌, ◌*◌, ◌-◌, ◌≤◌, length};
 ghost use Rattle.image.specs.Text.{text_of, off_of};
 ghost use Rattle.rules.specs.Resolve.{comma, type_text, signature};
 ghost use Rattle.nodes.specs.Shown.{View, In, tree_of};
-ghost use Rattle.records.specs.Words.{old, new};
 ghost use Rattle.signature.specs.Wrote.{Wrote, Room};
 ghost use Rattle.signature.specs.Texts.{args_from, params_from, quorum_text, head_text, has_arguments, Texts, Carrying, CountingRoom, Heading, Typing, Arguing, Listing, Signing};
 
@@ -13,7 +13,7 @@ use nodes::{Cursor, TYPE};
 // One byte, where there is room, and the next position.
 fn put(out: &mut [u8], at: usize, b: u8) -> usize
     requires { Room at (b ∷ []) }
-    ensures { Wrote (old out) at (b ∷ []) (new out) result }
+    ensures { Wrote out.old at (b ∷ []) out.new result }
 {
     if out.len() <= at {
         return at + 1;
@@ -25,7 +25,7 @@ fn put(out: &mut [u8], at: usize, b: u8) -> usize
 // The bytes of a slice.
 fn put_all(src: &[u8], out: &mut [u8], at: usize) -> usize
     requires { Room at src.now }
-    ensures { Wrote (old out) at (old src) (new out) result }
+    ensures { Wrote out.old at src.now out.new result }
 {
     let mut j = 0;
     let mut o = at;
@@ -39,7 +39,7 @@ fn put_all(src: &[u8], out: &mut [u8], at: usize) -> usize
 // A comma before all but the first, which stands at start.
 fn put_comma(start: usize, i: usize, out: &mut [u8], at: usize) -> usize
     requires { Room at (comma start i) }
-    ensures { Wrote (old out) at (comma start i) (new out) result }
+    ensures { Wrote out.old at (comma start i) out.new result }
 {
     if i == start {
         return at;
@@ -50,7 +50,7 @@ fn put_comma(start: usize, i: usize, out: &mut [u8], at: usize) -> usize
 // The text of name number x.
 fn put_name(names: &[u8], text: &[u8], x: usize, out: &mut [u8], at: usize) -> usize
     requires { (1 ≤ x) × (2 * x + 2 ≤ length names.now) × (off_of names.now (x - 1) ≤ off_of names.now x) × (off_of names.now x ≤ length text.now) × Room at (text_of names.now text.now x) }
-    ensures { Wrote (old out) at (text_of (old names) (old text) x) (new out) result }
+    ensures { Wrote out.old at (text_of names.now text.now x) out.new result }
 {
     let lo = image::offset(names, x - 1);
     let hi = image::offset(names, x);
@@ -68,7 +68,7 @@ fn put_text(
     at: usize,
 ) -> usize
     requires { Carrying nodes.now base names.now text.now p at }
-    ensures { (T : Texts (old nodes) base (old names) (old text)) → Wrote (old out) at ((tree_of T.view).text p) (new out) result }
+    ensures { (T : Texts nodes.now base names.now text.now) → Wrote out.old at ((tree_of T.view).text p) out.new result }
 {
     let x = nodes::name(nodes, base, p);
     put_name(names, text, x, out, at)
@@ -85,7 +85,7 @@ fn put_quorum(
     at: usize,
 ) -> usize
     requires { CountingRoom nodes.now base names.now text.now y at }
-    ensures { (T : Texts (old nodes) base (old names) (old text)) → Wrote (old out) at (quorum_text (tree_of T.view) y) (new out) result }
+    ensures { (T : Texts nodes.now base names.now text.now) → Wrote out.old at (quorum_text (tree_of T.view) y) out.new result }
 {
     let after_m = put_text(nodes, base, names, text, y + 1, out, at);
     let after_of = put_all(b" of ", out, after_m);
@@ -103,7 +103,7 @@ fn put_head(
     at: usize,
 ) -> usize
     requires { Heading nodes.now base names.now text.now y at }
-    ensures { (T : Texts (old nodes) base (old names) (old text)) → Wrote (old out) at (head_text (tree_of T.view) y) (new out) result }
+    ensures { (T : Texts nodes.now base names.now text.now) → Wrote out.old at (head_text (tree_of T.view) y) out.new result }
 {
     let k = nodes::kind(nodes, base, y);
     if k == 12 {
@@ -118,7 +118,7 @@ fn put_head(
 // Whether the type or type argument at y is a type with arguments.
 fn has_arguments(nodes: &[u8], base: usize, y: usize) -> bool
     requires { In nodes.now base y }
-    ensures { (W : View (old nodes) base) → result ≡ has_arguments (tree_of W) y }
+    ensures { (W : View nodes.now base) → result ≡ has_arguments (tree_of W) y }
 {
     if nodes::kind(nodes, base, y) != TYPE {
         return false;
@@ -139,7 +139,7 @@ fn write_type(
     at: usize,
 ) -> usize
     requires { Typing nodes.now base names.now text.now levels y at }
-    ensures { (T : Texts (old nodes) base (old names) (old text)) → Wrote (old out) at (type_text levels (tree_of T.view) y) (new out) result }
+    ensures { (T : Texts nodes.now base names.now text.now) → Wrote out.old at (type_text levels (tree_of T.view) y) out.new result }
 {
     if levels == 0 {
         return at;
@@ -166,7 +166,7 @@ fn write_args(
     at: usize,
 ) -> usize
     requires { Arguing nodes.now base names.now text.now levels y at }
-    ensures { (T : Texts (old nodes) base (old names) (old text)) → Wrote (old out) at (args_from levels (tree_of T.view) y (y + 2)) (new out) result }
+    ensures { (T : Texts nodes.now base names.now text.now) → Wrote out.old at (args_from levels (tree_of T.view) y (y + 2)) out.new result }
 {
     let to = nodes::end(nodes, base, y);
     let mut o = at;
@@ -195,7 +195,7 @@ fn write_params(
     at: usize,
 ) -> usize
     requires { Listing nodes.now base names.now text.now e at }
-    ensures { (T : Texts (old nodes) base (old names) (old text)) → Wrote (old out) at (params_from (tree_of T.view) e (e + 2)) (new out) result }
+    ensures { (T : Texts nodes.now base names.now text.now) → Wrote out.old at (params_from (tree_of T.view) e (e + 2)) out.new result }
 {
     let to = nodes::end(nodes, base, e);
     let mut o = at;
@@ -227,7 +227,7 @@ pub fn write(
     at: usize,
 ) -> usize
     requires { Signing nodes.now base names.now text.now e at }
-    ensures { ((T : Texts (old nodes) base (old names) (old text)) → Wrote (old out) at (signature (tree_of T.view) e) (new out) result) × (result ≤ at + 534528) }
+    ensures { ((T : Texts nodes.now base names.now text.now) → Wrote out.old at (signature (tree_of T.view) e) out.new result) × (result ≤ at + 534528) }
 {
     let after_name = put_text(nodes, base, names, text, e + 1, out, at);
     let after_open = put(out, after_name, b'(');

@@ -1,12 +1,12 @@
 // The span words of a node of an admitted image: carried, never judged.
+#![tactic(auto)]
 ghost use Rattle.std.specs.Prelude.{◌≡◌, ◌<◌, ◌^◌};
 ghost use Rattle.rules.specs.Answers.{span_from, span_to};
-ghost use Rattle.records.specs.Words.{old};
 ghost use Rattle.nodes.specs.Shown.{Admitted};
 
 use image::Image;
 
-#[derive(Drop)]
+#[derive(Clone, Copy)]
 pub struct Span {
     pub from: usize,
     pub to: usize,
@@ -15,7 +15,7 @@ pub struct Span {
 // The two span words of the node at a place. Past the last node they are 0, as the definitions have it, so that no caller needs to show that its place is a node.
 pub fn of_place(image: &[u8], head: Image, place: usize) -> Span
     requires { Admitted image.now head }
-    ensures { (result.from ≡ span_from (old image) place) × (result.to ≡ span_to (old image) place) × (result.from < 2 ^ 32) × (result.to < 2 ^ 32) }
+    ensures { (result.from ≡ span_from image.now place) × (result.to ≡ span_to image.now place) × (result.from < 2 ^ 32) × (result.to < 2 ^ 32) }
 {
     let n = head.nodes;
     if n <= place {

@@ -1,5 +1,7 @@
 // One step of the walk over the nodes of an image: what a node itself must be, whatever its children are, its name marked, and the
 // position of the walk after it.
+#![tactic(auto)]
+
 ghost use Rattle.std.specs.Prelude.{◌≡◌, ℕ, ◌+◌, ◌*◌, ◌<◌, ◌≤◌, true, length, get_or, set, ltb, eqb};
 ghost use Rattle.image.specs.Pick.{pick};
 ghost use Rattle.image.specs.Maxima.{max_nodes, max_names};
@@ -99,7 +101,7 @@ fn larger(a: usize, b: usize) -> usize
 }
 
 // Where the walk over the nodes stands. Nodes stand in preorder, so one node after the other is met, each as a child of the open node.
-#[derive(Drop)]
+#[derive(Clone, Copy)]
 pub struct Position {
     // The next node.
     pub at: usize,

@@ -1,7 +1,7 @@
 // Why a lot is refused (E3 of document 02): any bytes and any place in, the Burns clauses and the counted occurrences of the lot there out, two words each. The public function asks nothing of its caller.
+#![tactic(auto)]
 ghost use Rattle.std.specs.Prelude.{◌≡◌, ℕ, ◌<◌, ◌≤◌, ltb, eqb};
 ghost use Rattle.image.specs.Pick.{both};
-ghost use Rattle.records.specs.Words.{old, new};
 ghost use Rattle.nodes.specs.Shown.{View, In, Admitted, tree_of};
 ghost use Rattle.linear.specs.Seen.{LookedWords};
 ghost use Rattle.reasons.specs.Reasons.{TrackedAt};
@@ -15,7 +15,7 @@ use nodes::{Cursor, ENTRY, Marks};
 use places::Places;
 
 // What is answered: the refusal, or how many words there are.
-#[derive(Drop)]
+#[derive(Clone, Copy)]
 pub enum Explained {
     Refused(usize),
     Words(usize),
@@ -33,7 +33,7 @@ fn answer_row(
     out: &mut [u16],
 ) -> Explained
     requires { Rowed nodes.now entry row asset reader.now first.now last.now }
-    ensures { (T : Rowed (old nodes) entry row asset (old reader) (old first) (old last)) (p : ℕ) → TrackedAt (tree_of T.view) p entry (row_node (tree_of T.view) entry row) → Explains T.view.image p (old out) result (new out) }
+    ensures { (T : Rowed nodes.now entry row asset reader.now first.now last.now) (p : ℕ) → TrackedAt (tree_of T.view) p entry (row_node (tree_of T.view) entry row) → Explains T.view.image p out.old result out.new }
 {
     let size = out.len();
     let mut none = [0u16; 0];
@@ -53,7 +53,7 @@ fn wide(x: u16) -> usize
 // The number, from 1 on, of the row at this place; 0 where none of the n rows stands there.
 fn row_at(n: usize, places: &Cells, place: usize) -> usize
     requires { n ≤ 511 }
-    ensures { RowAt n (old places) place result }
+    ensures { RowAt n places.now place result }
 {
     let mut row = 0;
     while row < n {
@@ -74,7 +74,7 @@ fn answer_entry(
     out: &mut [u16],
 ) -> Explained
     requires { ((T : LookedWords nodes.now words) × EntryAt T.view place entry) × (0 < entry) }
-    ensures { (T : LookedWords (old nodes) words) → EntryAt T.view place entry → Explains T.view.image place (old out) result (new out) }
+    ensures { (T : LookedWords nodes.now words) → EntryAt T.view place entry → Explains T.view.image place out.old result out.new }
 {
     let asset_words = linear_parts::asset_words(words);
     let asset = asset_words.asset;
@@ -104,7 +104,7 @@ fn answer_entry(
 // Whether an item, which ends at `end`, is an Entry that holds this place.
 fn holds(nodes: &[u8], item: usize, end: usize, place: usize) -> bool
     requires { In nodes.now 0 item }
-    ensures { (W : View (old nodes) 0) → result ≡ both (eqb ((tree_of W).kind item) 9) (both (ltb item place) (ltb place end)) }
+    ensures { (W : View nodes.now 0) → result ≡ both (eqb ((tree_of W).kind item) 9) (both (ltb item place) (ltb place end)) }
 {
     if nodes::kind(nodes, 0, item) != ENTRY {
         return false;
@@ -118,7 +118,7 @@ fn holds(nodes: &[u8], item: usize, end: usize, place: usize) -> bool
 // The Entry that holds this place; 0 where none does.
 fn entry_at(nodes: &[u8], place: usize) -> usize
     requires { View nodes.now 0 × In nodes.now 0 0 }
-    ensures { (W : View (old nodes) 0) → EntryAt W place result }
+    ensures { (W : View nodes.now 0) → EntryAt W place result }
 {
     let to = nodes::end(nodes, 0, 0);
     let mut children = Cursor {
@@ -139,7 +139,7 @@ fn entry_at(nodes: &[u8], place: usize) -> usize
 // What is answered of an admitted image.
 fn answer(image: &[u8], head: Image, place: usize, out: &mut [u16]) -> Explained
     requires { Admitted image.now head }
-    ensures { Explains (old image) place (old out) result (new out) }
+    ensures { Explains image.now place out.old result out.new }
 {
     let nodes = nodes::area(image, head);
     let entry = entry_at(nodes, place);
@@ -152,7 +152,7 @@ fn answer(image: &[u8], head: Image, place: usize, out: &mut [u16]) -> Explained
 
 // Why the lot at this place is refused, or is not: its clauses and its uses, two words each. Refusals: 1 to 8, those of the image; 13, no lot stands there; 10, the buffer is too short.
 pub fn why(image: &[u8], place: usize, words: &mut [u16]) -> Explained
-    ensures { Explains (old image) place (old words) result (new words) }
+    ensures { Explains image.now place words.old result words.new }
 {
     match admission::admit(image) {
         Admission::Refused(r) => Explained::Refused(r),

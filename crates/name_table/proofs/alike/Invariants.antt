@@ -1,0 +1,12 @@
+-- `alike` meets its contract: up to k the two texts are the same, so their rests decide.
+use Prim.Native.Nat.{◌-◌, ◌≤◌}
+use mathlib.Core.Path.{◌≡◌}
+use lib.ListN.{length, drop}
+use Rattle.image.specs.Text.{less}
+use Rattle.name_table.proofs.alike.Given as goal
+
+abbrev pub invariant-loop-k : goal.invariant-loop-k
+invariant-loop-k l = (l.k ≤ length l.t) × (l.k ≤ length l.u) × (less l.t l.u ≡ less (drop l.k l.t) (drop l.k l.u))
+
+abbrev pub decreases-loop-k : goal.decreases-loop-k
+decreases-loop-k l = length l.u - l.k

@@ -1,0 +1,5 @@
+-- `past` meets its contract.
+use Rattle.steps.proofs.past.Goals as goal
+
+pub returns : goal.returns
+returns c = simp c.larger.ensures

@@ -1,0 +1,5 @@
+-- `up` meets its contract: the cells of the stack are read.
+use Rattle.steps.proofs.up.Goals as goal
+
+pub returns : goal.returns
+returns c = simp (c.wide.ensures.0, c.wide16.ensures)
