@@ -1,6 +1,7 @@
 // Admission: every byte slice is an image, or is refused by number. The header's refusals, 1 to 4, are `Image::read`'s; here are one walk over
 // the nodes (6 and 7, and the marks behind 8) and the refusals in their order.
 #![tactic(auto)]
+
 ghost use Rattle.std.specs.Prelude.{◌≡◌, ℕ, ◌+◌, ◌*◌, ◌<◌, ◌≤◌, true, false, length, get_or, replicate, ltb};
 ghost use Rattle.image.specs.Pick.{pick, every};
 ghost use Rattle.image.specs.Maxima.{max_nodes, max_names, max_depth};

@@ -1,5 +1,6 @@
 // The items of a contract: which of them there are, and the statements of one, lent as their own part of the node area.
 #![tactic(auto)]
+
 ghost use Rattle.std.specs.Prelude.{◌≡◌, ◌<◌, eqb};
 ghost use Rattle.image.specs.Pick.{pick};
 ghost use Rattle.rules.specs.Sweep.{either, has};

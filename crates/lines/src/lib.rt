@@ -1,5 +1,6 @@
 // Bytes, numbers and the ends of lines, written into a lent buffer. What does not fit is not written; all of it is counted.
 #![tactic(auto)]
+
 ghost use Rattle.std.specs.Prelude.{◌≡◌, [], ◌∷◌, ◌+◌, ◌<◌, ◌≤◌, ◌^◌, length, set};
 ghost use Rattle.lines.specs.Line.{digits, rest, Printed};
 

@@ -1,5 +1,6 @@
 // Words looked up by their bytes, and a mark by word: what "Model" and "Offences" of document 01 say of names that they spell out, such as `QTOV` or `deployer`.
 #![tactic(auto)]
+
 ghost use Rattle.std.specs.Prelude.{◌≡◌, Bool, List, ℕ, ◌+◌, ◌<◌, ◌≤◌};
 ghost use Rattle.image.specs.Maxima.{max_names};
 ghost use Rattle.rules.specs.Sweep.{same};

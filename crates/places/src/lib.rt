@@ -1,5 +1,6 @@
 // One node for each name: the first, or the last, of a kind below a node that has it as its Name ("met before", "no such Let in an earlier statement", "the event's last declaration" of document 01).
 #![tactic(auto)]
+
 ghost use Rattle.std.specs.Prelude.{◌≡◌, List, [], ◌∷◌, ℕ, ◌+◌, ◌-◌, ◌<◌};
 ghost use Rattle.nodes.specs.Shown.{View, In, Worded, tree_of};
 ghost use Rattle.nodes.specs.First.{NameFirst, Declaring, NamedPart, HeadPart, Head, Until};

@@ -1,5 +1,6 @@
 // Codes 33 and 35 to 39 of document 01: the Assigns of a Genesis, an entry's signers and clauses; a rule about words, which 32 is too.
 #![tactic(auto)]
+
 ghost use Rattle.std.specs.Prelude.{◌≡◌, Bool, true, false, List, [], ◌∷◌, ℕ, ◌+◌, ◌*◌, ◌-◌, ◌<◌, ◌≤◌, ◌^◌};
 ghost use Rattle.rules.specs.Sweep.{run};
 ghost use Rattle.rules.specs.Tree.{assign, naming};

@@ -1,6 +1,7 @@
 // The signature text of an entry (23 of document 01), written into a lent buffer where there is room, and counted.
 // Code 23 itself, resolve_overloads, writes no text: `same-text-same-nodes` in proofs/Same.antt says that comparing the texts is comparing the nodes.
 #![tactic(auto)]
+
 ghost use Rattle.std.specs.Prelude.{◌≡◌, List, [], ◌∷◌, ◌++◌, ℕ, ◌+◌, ◌*◌, ◌-◌, ◌≤◌, length};
 ghost use Rattle.image.specs.Text.{text_of, off_of};
 ghost use Rattle.rules.specs.Resolve.{comma, type_text, signature};

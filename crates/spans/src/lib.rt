@@ -1,5 +1,6 @@
 // The span words of a node of an admitted image: carried, never judged.
 #![tactic(auto)]
+
 ghost use Rattle.std.specs.Prelude.{◌≡◌, ◌<◌, ◌^◌};
 ghost use Rattle.rules.specs.Answers.{span_from, span_to};
 ghost use Rattle.nodes.specs.Shown.{Admitted};
