@@ -19,9 +19,9 @@ root_ok-requires c = (omega arith, c.requires.4, c.requires.5, refl)
 
 pub returns-then-not-root_ok : goal.returns-then-not-root_ok
 returns-then-not-root_ok c =
-    let a = c.args in
+    let t = let a = c.args in
     let unlike = sym c.if-not-root_ok.true ∙ c.root_ok.ensures in
-    refused a.nodes.now a.names.now a.text.now a.n a.m _ (root-unfit a.nodes.now a.names.now a.text.now a.n a.m c.requires.0 unlike)
+    refused a.nodes.now a.names.now a.text.now a.n a.m _ (root-unfit a.nodes.now a.names.now a.text.now a.n a.m c.requires.0 unlike) in record { value = t.0; false_after = t.1 }
 
 pub mark-requires : goal.mark-requires
 mark-requires c =
@@ -41,4 +41,5 @@ walk-requires c =
 pub returns : goal.returns
 returns c =
     let rooted : let a = c.args in Rooted a.nodes.now a.names.now a.text.now a.n a.m = root-fit _ _ _ _ _ c.requires.0 (sym c.if-not-root_ok.false ∙ c.root_ok.ensures) in
-    whole _ _ _ _ _ (rooted) _ c.walk.ensures
+    let t = whole c.args.nodes.now c.args.names.now c.args.text.now c.args.n c.args.m rooted _ (c.walk.ensures.value, c.walk.ensures.false_after) in
+    record { value = t.0; false_after = t.1 }

@@ -13,10 +13,10 @@ pub loop-p-init : goal.loop-p-init
 loop-p-init c = let p = c.requires in rw c.start-p.ensures (begins _ _ _ _ _ p.1 p.7 p.8)
 
 pub returns-then-p-lt-MAY_END : goal.returns-then-p-lt-MAY_END
-returns-then-p-lt-MAY_END c = wanting _ _ _ _ _ c.loop-p.invariant c.if-p.true c.if-p-lt-MAY_END.true
+returns-then-p-lt-MAY_END c = let t = wanting _ _ _ _ _ c.loop-p.invariant c.if-p.true c.if-p-lt-MAY_END.true in record { value = t.0; false_after = t.1 }
 
 pub returns-then-p-lt1 : goal.returns-then-p-lt1
-returns-then-p-lt1 c = finished _ _ _ _ _ c.loop-p.invariant c.if-p.true c.if-p-lt-MAY_END.false c.if-p-lt1.true _ c.too_deep.ensures
+returns-then-p-lt1 c = let t = finished _ _ _ _ _ c.loop-p.invariant c.if-p.true c.if-p-lt-MAY_END.false c.if-p-lt1.true _ c.too_deep.ensures in record { value = t.0; false_after = t.1 }
 
 pub up-p-requires : goal.up-p-requires
 up-p-requires c =
@@ -42,7 +42,7 @@ child_ok-requires c =
     (omega arith, p.3, p.4, known)
 
 pub returns-then-not-child_ok : goal.returns-then-not-child_ok
-returns-then-not-child_ok c = unfit _ _ _ _ _ c.loop-p.invariant c.if-p.false (sym c.if-not-child_ok.true ∙ c.child_ok.ensures)
+returns-then-not-child_ok c = let t = unfit _ _ _ _ _ c.loop-p.invariant c.if-p.false (sym c.if-not-child_ok.true ∙ c.child_ok.ensures) in record { value = t.0; false_after = t.1 }
 
 pub mark-requires : goal.mark-requires
 mark-requires c =

@@ -19,13 +19,13 @@ pub returns-in-18 : goal.returns-in-18
 returns-in-18 c = added-by (held-as (λ T. by-declared T)) (λ h. burns-39 (tree_of h.seen.view) _ (sym (c.kind.ensures h.seen.view) ∙ c.in-18.is)) c.within-in-18.ensures
 
 pub returns-in-14-to-15 : goal.returns-in-14-to-15
-returns-in-14-to-15 c = added-by (held-as (λ T. by_state T)) (λ h. let e = c.kind.ensures h.seen.view in let l = c.if-this-lt14.false in let m = c.if-this-lt16.true in state-36 (tree_of h.seen.view) _ (omega arith) (omega arith)) c.within-in-14-to-15.ensures
+returns-in-14-to-15 c = added-by (held-as (λ T. by_state T)) (λ h. let e = c.kind.ensures h.seen.view in state-36 (tree_of h.seen.view) _ (omega arith) (omega arith)) c.within-in-14-to-15.ensures
 
 pub returns-in_default : goal.returns-in_default
-returns-in_default c = added-nothing (λ h. let e = c.kind.ensures h.seen.view in let l = c.if-this-lt14.true in keep-none _ _ (other-36 (tree_of h.seen.view) _ (λ d. omega arith) (λ d. omega arith) (λ d. omega arith) (λ d. omega arith) (λ d. omega arith)))
+returns-in_default c = added-nothing (λ h. let e = c.kind.ensures h.seen.view in keep-none _ _ (other-36 (tree_of h.seen.view) _ (λ d. omega arith) (λ d. omega arith) (λ d. omega arith) (λ d. omega arith) (λ d. omega arith)))
 
 pub returns-in_default-2 : goal.returns-in_default-2
-returns-in_default-2 c = added-nothing (λ h. let e = c.kind.ensures h.seen.view in let l = c.if-this-lt16.false in let m = c.in_default-1.rest in keep-none _ _ (other-36 (tree_of h.seen.view) _ (λ d. omega arith) (λ d. omega arith) (λ d. m.0.0.1 (e ∙ d)) (λ d. m.0.1 (e ∙ d)) (λ d. m.1 (e ∙ d))))
+returns-in_default-2 c = added-nothing (λ h. let e = c.kind.ensures h.seen.view in keep-none _ _ (other-36 (tree_of h.seen.view) _ (λ d. omega arith) (λ d. omega arith) (λ d. omega arith) (λ d. omega arith) (λ d. omega arith)))
 
 pub within-requires : goal.within-requires
 within-requires c = (by-known c.requires.0, inl refl, c.requires.1, c.requires.2, c.requires.3)
