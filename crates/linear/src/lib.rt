@@ -1,5 +1,6 @@
 // The linear pass: codes 60, 61 and 62 of document 01, entry by entry, as the pass's part of the list.
 #![tactic(auto)]
+
 ghost use Rattle.std.specs.Prelude.{◌*◌, ◌<◌, ◌^◌};
 ghost use Rattle.rules.specs.Linear.{linear};
 ghost use Rattle.records.specs.Records.{Adds, on};

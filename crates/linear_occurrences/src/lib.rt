@@ -1,5 +1,6 @@
 // Counted occurrences ("Linear" of document 01, E5 of document 02): the Idents that an Assign takes as its bare value, or a Call as an argument, each with the node that takes it.
 #![tactic(auto)]
+
 ghost use Rattle.std.specs.Prelude.{◌≡◌, false, List, ℕ, ◌<◌, get_or, set};
 ghost use Rattle.image.specs.Admit.{refusal};
 ghost use Rattle.nodes.specs.Shown.{View, In, tree_of};

@@ -1,5 +1,6 @@
 // The parts of an entry ("Linear" of document 01): which of them declare a tracked row, which Lets are another name of one (60), and where a row stands.
 #![tactic(auto)]
+
 ghost use Rattle.std.specs.Prelude.{◌≡◌, List, ℕ, ◌≤◌};
 ghost use Rattle.rules.specs.Words.{Q_Asset, split, mint};
 ghost use Rattle.rules.specs.Linear.{place_of};

@@ -1,5 +1,6 @@
 // The cells of the tracked rows, and what is judged of each row by them: 61 and 62 of document 01.
 #![tactic(auto)]
+
 ghost use Rattle.std.specs.Prelude.{◌≡◌, ℕ, ◌+◌, ◌*◌, ◌<◌, ◌≤◌, ◌^◌, ltb, eqb, length, get_or, set};
 ghost use Rattle.rules.specs.Vocabulary.{rec, only};
 ghost use Rattle.rules.specs.Sweep.{run};

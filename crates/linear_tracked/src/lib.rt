@@ -1,5 +1,6 @@
 // The tracked rows of an entry ("Linear" of document 01) and its 60s, collected in one walk over its parts; and taken off again.
 #![tactic(auto)]
+
 ghost use Rattle.std.specs.Prelude.{◌≡◌, ◌+◌, ◌*◌, ◌<◌, ◌≤◌, ◌^◌};
 ghost use Rattle.rules.specs.Sweep.{same};
 ghost use Rattle.rules.specs.Tree.{«let»};

@@ -1,5 +1,6 @@
 // Marks and occurrences on the tracked rows: "Burn mark" and "Counted occurrences" of document 01, and which occurrence 62 is related to (E4 of document 02).
 #![tactic(auto)]
+
 ghost use Rattle.std.specs.Prelude.{◌≡◌, Bool, false, List, [], ◌++◌, ℕ, ◌+◌, ◌*◌, ◌<◌, eqb, get_or, set};
 ghost use Rattle.nodes.specs.Shown.{In, Worded, tree_of};
 ghost use Rattle.nodes.specs.Marks.{Marks};

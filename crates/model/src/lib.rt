@@ -1,5 +1,6 @@
 // "Model" of document 01: the tables of state names, declared assets and known assets, one mark for each name, and the three questions about a name.
 #![tactic(auto)]
+
 ghost use Rattle.std.specs.Prelude.{◌≡◌, true, false, [], ◌∷◌, ◌<◌};
 ghost use Rattle.rules.specs.Tree.{tree};
 ghost use Rattle.rules.specs.Vocabulary.{declares};

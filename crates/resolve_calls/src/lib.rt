@@ -1,5 +1,6 @@
 // Calls: codes 34 and 40 of document 01, and the marks that they ask.
 #![tactic(auto)]
+
 ghost use Rattle.std.specs.Prelude.{◌≡◌, true, false, List, [], ℕ, ◌<◌, ◌^◌};
 ghost use Rattle.image.specs.Admit.{refusal};
 ghost use Rattle.rules.specs.Sweep.{also, has};

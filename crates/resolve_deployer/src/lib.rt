@@ -1,5 +1,6 @@
 // Code 32 of document 01, `deployer`: the signers, statements and clauses of entries, and the Invariants.
 #![tactic(auto)]
+
 ghost use Rattle.std.specs.Prelude.{◌*◌, ◌<◌, ◌^◌};
 ghost use Rattle.rules.specs.Tree.{limits_denies_after};
 ghost use Rattle.rules.specs.Vocabulary.{below};

@@ -1,5 +1,6 @@
 // One Emit: codes 30 and 31 of document 01.
 #![tactic(auto)]
+
 ghost use Rattle.std.specs.Prelude.{◌≡◌, ◌<◌, ◌^◌, length};
 ghost use Rattle.rules.specs.Tree.{event_param};
 ghost use Rattle.rules.specs.Vocabulary.{alone, below, arguments};

@@ -1,5 +1,6 @@
 // The Emits of a contract: codes 30 and 31 of document 01, item by item.
 #![tactic(auto)]
+
 ghost use Rattle.std.specs.Prelude.{◌≡◌, false, [], ◌∷◌, ◌*◌, ◌<◌, ◌^◌};
 ghost use Rattle.rules.specs.Tree.{event, genesis};
 ghost use Rattle.rules.specs.Resolve.{emits, group30};

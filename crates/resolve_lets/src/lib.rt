@@ -1,5 +1,6 @@
 // An entry's Lets and what is named before its Let: codes 26 to 29 of document 01.
 #![tactic(auto)]
+
 ghost use Rattle.std.specs.Prelude.{◌≡◌, false, ◌*◌, ◌<◌, ◌^◌};
 ghost use Rattle.records.specs.Records.{Adds, Asks};
 ghost use Rattle.nodes.specs.Entries.{in_part};

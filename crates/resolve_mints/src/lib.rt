@@ -1,5 +1,6 @@
 // Calls of `mint_asset` where there is over one Asset item: code 22 of document 01.
 #![tactic(auto)]
+
 ghost use Rattle.std.specs.Prelude.{◌≡◌, ◌*◌, ◌<◌, ◌^◌};
 ghost use Rattle.rules.specs.Resolve.{many_assets, mint_calls, group22};
 ghost use Rattle.records.specs.Records.{Adds, Asks};

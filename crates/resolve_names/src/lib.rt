@@ -1,5 +1,6 @@
 // Names met before and state names: what is asked of a node's name, and codes 20 and 21 of document 01.
 #![tactic(auto)]
+
 ghost use Rattle.std.specs.Prelude.{◌≡◌, false, ◌⊎◌, [], ◌∷◌, ℕ, ◌+◌, ◌<◌, ◌≤◌, ◌^◌};
 ghost use Rattle.rules.specs.Tree.{event};
 ghost use Rattle.rules.specs.Vocabulary.{below};

@@ -1,5 +1,6 @@
 // An entry's parameters, codes 24 and 25 of document 01; and 24 to 29, the entries in order.
 #![tactic(auto)]
+
 ghost use Rattle.std.specs.Prelude.{◌*◌, ◌<◌, ◌^◌};
 ghost use Rattle.rules.specs.Resolve.{group24};
 ghost use Rattle.records.specs.Records.{Adds, on};

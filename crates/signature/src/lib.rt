@@ -128,7 +128,7 @@ fn has_arguments(nodes: &[u8], base: usize, y: usize) -> bool
 }
 
 // The type or type argument at y, of which so many levels are written.
-#[cycle(write_args_write_type)]
+#[cycle(types)]
 fn write_type(
     nodes: &[u8],
     base: usize,
@@ -155,7 +155,7 @@ fn write_type(
 }
 
 // The arguments of the type y, joined by commas.
-#[cycle(write_args_write_type)]
+#[cycle(types)]
 fn write_args(
     nodes: &[u8],
     base: usize,

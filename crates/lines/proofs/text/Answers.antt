@@ -1,7 +1,6 @@
 -- `text` meets its contract: byte by byte.
 use borrow.Author.Rules.{rules}
 use native.Mathlib.Omega.{arith}
-use Prim.Native.Nat.{◌-◌}
 use lib.Seq.{take_all, length-take-le}
 use Rattle.lines.proofs.Laws.{wrote_none, wrote-join, wrote_as, wrote-long, take_next}
 use Rattle.lines.proofs.text.Goals as goal

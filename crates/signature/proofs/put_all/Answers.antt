@@ -1,7 +1,6 @@
 -- `put_all` meets its contract: byte by byte; the text that remains is what is left of the slice.
 use borrow.Author.Rules.{rules}
 use native.Mathlib.Omega.{arith}
-use Prim.Native.Nat.{◌-◌}
 use lib.ListN.{drop_of_length-le}
 use Rattle.signature.proofs.Laws.{goes_refl, goes-trans, goes-as, goes_end, goes-length, byte-room, byte_step}
 use Rattle.signature.proofs.put_all.Goals as goal

@@ -1,6 +1,6 @@
 -- `write_params` meets its contract: a walk from parameter to parameter; the text that remains is what is left of the parameters.
 use native.Mathlib.Omega.{arith}
-use Prim.Native.Nat.{ℕ, ◌+◌, ◌-◌, ◌<◌, ◌≤◌}
+use Prim.Native.Nat.{ℕ, ◌+◌, ◌<◌, ◌≤◌}
 use mathlib.Core.Path.{◌≡◌, refl, sym, ◌∙◌}
 use mathlib.Core.List.{◌++◌}
 use Rattle.rules.specs.Resolve.{comma, type_text}

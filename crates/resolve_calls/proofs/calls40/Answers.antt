@@ -1,0 +1,22 @@
+-- `calls40` meets its contract: one sweep over the nodes that are lent.
+use native.Mathlib.Omega.{arith}
+use Prim.Native.Nat.{◌-◌}
+use Rattle.records.proofs.Laws.{asked, held_all}
+use Rattle.records.proofs.Sweep.{sweep-again, sweep-long}
+use Rattle.nodes.proofs.Spans.{span-whole, upto_is, whole-starts, whole-swept}
+use Rattle.resolve_calls.proofs.calls40.Goals as goal
+
+pub overflow_add-end : goal.overflow_add-end
+overflow_add-end c = let W = c.requires.0.view in let u = (span-whole W (upto_is W)).under in omega arith
+
+pub loop-p-preserved : goal.loop-p-preserved
+loop-p-preserved c = let i = c.loop-p.invariant in (i.0, sweep-again i.1 (asked (λ h. h.seen) 40 _ (λ h. h.held _ i.1.low c.loop-p-test.true) _ c.rule40.ensures c.emit_if-total.ensures) c.loop-p-test.true)
+
+pub loop-p-init : goal.loop-p-init
+loop-p-init c = whole-starts c.requires.0.view
+
+pub shape_of-out : goal.shape_of-out
+shape_of-out c = sweep-long c.loop-p.invariant.1 (held_all _ c.requires.0)
+
+pub returns : goal.returns
+returns c = whole-swept (λ h. h.seen.view) c.loop-p.invariant c.loop-p-test.false
