@@ -75,7 +75,13 @@ fn pass_differs(
 }
 
 // The refusal, and each pass asked by itself.
-fn passes_differ(rt: &impl Print, case: Case, file: &[u8], at: usize, image: &[u8]) -> io::Result<usize>
+fn passes_differ(
+    rt: &impl Print,
+    case: Case,
+    file: &[u8],
+    at: usize,
+    image: &[u8],
+) -> io::Result<usize>
     requires { at + 36 ≤ length file.now }
     ensures ok { IfOk result (λ n. (n ≡ pass_differences file.now at case.refusal image.now) × (n ≤ 4)) }
     ensures err { OnErr result (0 < pass_differences file.now at case.refusal image.now) }
@@ -90,7 +96,13 @@ fn passes_differ(rt: &impl Print, case: Case, file: &[u8], at: usize, image: &[u
 }
 
 // The passes asked at once.
-fn verdicts_differ(rt: &impl Print, case: Case, file: &[u8], at: usize, image: &[u8]) -> io::Result<usize>
+fn verdicts_differ(
+    rt: &impl Print,
+    case: Case,
+    file: &[u8],
+    at: usize,
+    image: &[u8],
+) -> io::Result<usize>
     requires { at + 36 ≤ length file.now }
     ensures ok { IfOk result (λ n. (n ≡ verdict_differences file.now at case.refusal image.now) × (n ≤ 3)) }
     ensures err { OnErr result (0 < verdict_differences file.now at case.refusal image.now) }
@@ -106,7 +118,13 @@ fn verdicts_differ(rt: &impl Print, case: Case, file: &[u8], at: usize, image: &
 }
 
 // The linear pass in a table of rows that it is lent.
-fn lent_differs(rt: &impl Print, case: Case, file: &[u8], at: usize, image: &[u8]) -> io::Result<usize>
+fn lent_differs(
+    rt: &impl Print,
+    case: Case,
+    file: &[u8],
+    at: usize,
+    image: &[u8],
+) -> io::Result<usize>
     requires { at + 36 ≤ length file.now }
     ensures ok { IfOk result (λ n. (n ≡ pass_difference linear file.now (at + 24) case.refusal image.now) × (n ≤ 1)) }
     ensures err { OnErr result (0 < pass_difference linear file.now (at + 24) case.refusal image.now) }
@@ -228,7 +246,14 @@ fn answers_step(
     let b = verdicts_differ(rt, case, file, at + 1, image)?;
     let c = lists::differ(rt, case, file, list, count, image)?;
     let d = lent_differs(rt, case, file, at + 1, image)?;
-    let step = names_step(rt, case, file, names + 1, recording::u8_at(file, names), image)?;
+    let step = names_step(
+        rt,
+        case,
+        file,
+        names + 1,
+        recording::u8_at(file, names),
+        image,
+    )?;
     let differ = a + b + c + d;
     Ok(Step {
         at: step.at,

@@ -3,12 +3,8 @@ use Prim.Native.Nat.{ℕ}
 use mathlib.Core.Path.{refl, sym}
 use lib.ListN.{length-replicate}
 use Rattle.replay.specs.Differences.{zeros}
-use Rattle.replay.proofs.lists.blank.Statement.{statement}
-use Rattle.replay.proofs.lists.blank.Tie as tie
+use Rattle.replay.proofs.lists.blank.Goals as goal
 
-returns : tie.Need-returns
+pub returns : goal.returns
 unfolding zeros
 returns c = (refl, sym (length-replicate {A = ℕ} 225000 0))
-
-pub blank-spec : {M : Type 1} → statement M
-blank-spec = tie.close (tie.spec returns)
