@@ -1,6 +1,5 @@
 -- `stand` meets its contract: row by row; those before k stand in the table, and their tallies are blank.
 use native.Mathlib.Omega.{arith}
-use Prim.Native.Nat.{◌-◌}
 use mathlib.Core.Path.{◌≡◌, refl}
 use Rattle.linear_tracked.proofs.Place.{row-placed}
 use Rattle.linear_rows.proofs.Judged.{blanked-none, blanked-on}

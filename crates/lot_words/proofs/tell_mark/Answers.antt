@@ -3,8 +3,6 @@ use native.Mathlib.Omega.{arith}
 use Prim.Native.Nat.{ℕ, ◌+◌}
 use mathlib.Core.Path.{◌≡◌, refl, sym, ap, ◌∙◌}
 use mathlib.Core.List.{[], ◌∷◌}
-use Prim.Native.Nat.{ℕ, ◌+◌}
-use mathlib.Core.List.{[], ◌∷◌}
 use Rattle.rules.specs.Sweep.{has}
 use Rattle.nodes.specs.Shown.{View, tree_of}
 use Rattle.nodes.proofs.Turns.{named-at}

@@ -1,9 +1,6 @@
 -- `record_lines` meets its contract: record by record.
 use borrow.Author.Rules.{rules}
 use native.Mathlib.Omega.{arith}
-use Prim.Native.Nat.{◌-◌}
-use mathlib.Core.Path.{◌≡◌, sym, ap}
-use Prim.Native.Nat.{◌-◌}
 use mathlib.Core.Path.{◌≡◌, sym, ap}
 use Rattle.rules.specs.Sweep.{run}
 use Rattle.records.proofs.Sweep.{run_none}

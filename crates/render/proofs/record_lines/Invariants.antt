@@ -1,6 +1,5 @@
 -- `record_lines` meets its contract: record by record.
 use Prim.Native.Nat.{◌+◌, ◌*◌, ◌-◌, ◌≤◌}
-use Prim.Native.Nat.{◌+◌, ◌*◌, ◌-◌, ◌≤◌}
 use Rattle.rules.specs.Sweep.{run}
 use Rattle.lines.specs.Line.{Printed}
 use Rattle.render.specs.Report.{line_at}

@@ -7,7 +7,7 @@ use Rattle.records.proofs.Sweep.{has-not, has_one, keep-none, keep_one}
 use Rattle.nodes.proofs.Flat.{flat-calls}
 use Rattle.nodes.specs.Shown.{tree_of}
 use Rattle.resolve_calls.proofs.Lent.{lent-known}
-use mathlib.Core.Path.{◌≡◌, refl}
+use mathlib.Core.Path.{◌≡◌}
 use Rattle.nodes.specs.Shown.{View}
 use Rattle.nodes.proofs.Entries.{Holds, none-holds, node-held, part_held}
 use Rattle.resolve.proofs.Lent.{by-assigns}

@@ -1,6 +1,6 @@
 -- `entry_key` meets its contract: a walk from parameter to parameter.
 use native.Mathlib.Omega.{arith}
-use Prim.Native.Nat.{◌+◌, ◌-◌, ◌<◌, ◌≤◌}
+use Prim.Native.Nat.{◌+◌, ◌<◌, ◌≤◌}
 use mathlib.Core.Path.{◌≡◌, refl, sym, ◌∙◌}
 use Rattle.nodes.specs.Shown.{View, In, tree_of}
 use Rattle.nodes.proofs.Cursors.{before_last, past-last, stands, still-over, on-to}

@@ -1,7 +1,6 @@
 -- `answer_entry` meets its contract: the entry's rows are tracked, and the one at the place is sought among them.
 use native.Mathlib.Omega.{arith}
 use Prim.Native.Nat.{ℕ, ◌<◌}
-use Prim.Native.Nat.{◌<◌}
 use lib.ListN.{replicate, length-replicate}
 use Rattle.nodes.proofs.Names.{marks-none}
 use Rattle.places.proofs.Noting.{places-none}

@@ -1,6 +1,6 @@
 -- `entry_at` meets its contract: no item before the one at hand is an Entry that holds the place.
 use native.Mathlib.Omega.{arith}
-use Prim.Native.Nat.{◌-◌, ◌<◌, ◌≤◌}
+use Prim.Native.Nat.{◌<◌, ◌≤◌}
 use mathlib.Core.Path.{refl}
 use Rattle.nodes.specs.Shown.{In}
 use Rattle.nodes.proofs.Parts.{past}
