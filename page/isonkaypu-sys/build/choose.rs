@@ -39,15 +39,22 @@ pub fn own(folder: &Path, root: &Path, tell: impl Fn(&str)) -> Result<Chosen, St
     })
 }
 
-/// The files that decide what the library is, as far as they stand here.
+/// The list of the crates, and their folder.
+const CRATES: [&str; 2] = ["crates.txt", "crates"];
+
+/// The files and folders that decide what the library is, as far as they stand here: not what the toolchain keeps
+/// beside them.
 pub fn sources(root: &Path) -> Vec<PathBuf> {
-    let all = ["crates.txt", "crates"].map(|name| root.join(name));
-    all.into_iter().filter(|path| path.exists()).collect()
+    let crates = fs::read_dir(root.join(CRATES[1])).into_iter().flatten().flatten().map(|entry| entry.path());
+    let parts = crates.flat_map(|folder| ["src", "specs", "proofs"].map(|part| folder.join(part)));
+    let mut found: Vec<PathBuf> = parts.chain([root.join(CRATES[0])]).filter(|path| path.exists()).collect();
+    found.sort();
+    found
 }
 
 /// What a library made here would be made from; nothing where the crates do not stand beside `page`.
 fn here(root: &Path) -> Result<Option<String>, String> {
-    if sources(root).is_empty() {
+    if !CRATES.iter().any(|name| root.join(name).exists()) {
         return Ok(None);
     }
     let said = run(&root.join(SCRIPTS).join(NOTE))?;
