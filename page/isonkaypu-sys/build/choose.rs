@@ -13,7 +13,7 @@ const SCRIPTS: &str = "page/isonkaypu-sys";
 const WHAT_TO_RUN: &str = "`page/isonkaypu-sys/archive` makes it, on a machine with the Rattle toolchain, and prints its \
                            folder, for ISONKAYPU_STATICLIB";
 /// Said before the archive is made, since that can take long.
-const TAKES: &str = "it is proved and compiled now: about 10 minutes from nothing on two cores, seconds where it is \
+const TAKES: &str = "it is proved and compiled now: a quarter of an hour or more from nothing, seconds where it is \
                      proved already";
 
 /// An archive that may be linked.

@@ -226,7 +226,7 @@ fn the_repositorys_own_is_made_anew_where_it_is_another() {
     let told = told.borrow();
     let whys = ["is not there", "made from other crates", "nobody says what the library was made from"];
     for (what, why) in told.iter().zip(whys) {
-        assert!(what.contains(why) && what.contains("about 10 minutes"), "{what}");
+        assert!(what.contains(why) && what.contains("a quarter of an hour or more"), "{what}");
     }
     assert_eq!(told.len(), whys.len());
 }
