@@ -1,5 +1,6 @@
 // The face of typeck and of why for C and Rust, in plain numbers. A refused image answers its number, 1 to 8, and zeros.
 #![tactic(auto)]
+
 ghost use Rattle.std.specs.Prelude.{◌≡◌, [], ◌∷◌, ◌++◌, ◌+◌, ◌≤◌, length};
 ghost use Rattle.std.proofs.lemmas.List.Edits.{sets};
 ghost use Rattle.image.specs.Admit.{refusal};

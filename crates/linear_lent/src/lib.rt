@@ -1,6 +1,7 @@
 // The linear pass in a table of rows that it is lent ("a table of tracked rows that the linear pass is lent" of document 01): the rows of a contract are stored there, then each is judged where it stands, and blanked.
 // Two functions hold the rows, and a third lends its own; their proofs are walks by hand; they call functions with plain parameters for all else.
 #![tactic(auto)]
+
 ghost use Rattle.std.specs.Prelude.{◌≡◌, ◌≤◌, length, replicate};
 ghost use Rattle.image.specs.Admit.{refusal};
 ghost use Rattle.rules.specs.Linear.{linear};

@@ -1,5 +1,6 @@
 // One step of the linear pass in a table of rows that it is lent: a row of the contract is stored, or the one that stands there is judged and blanked.
 #![tactic(auto)]
+
 ghost use Rattle.std.specs.Prelude.{◌≡◌, ◌<◌, length};
 ghost use Rattle.linear_table.specs.Table.{row_in, blank_row};
 ghost use Rattle.linear_steps.specs.Step.{found_at, judge_row, row_before, next_of, step_of, state_with, start_of};

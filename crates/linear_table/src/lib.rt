@@ -1,5 +1,6 @@
 // The table of tracked rows of a contract in plain cells ("Linear" of document 01): the rows of its entries in order, up to the first entry that has a 60, which is an offence before those of its rows and of all entries after it.
 #![tactic(auto)]
+
 ghost use Rattle.std.specs.Prelude.{◌≡◌, List, [], ◌++◌, ◌+◌, ◌*◌, ◌<◌, ◌≤◌, length, get_or};
 ghost use Rattle.rules.specs.Sweep.{run};
 ghost use Rattle.nodes.specs.Shown.{In, Admitted, tree_of};

@@ -13,7 +13,7 @@ use Rattle.rules.specs.Tree.{Tree, tree, param_let}
 use Rattle.rules.specs.Vocabulary.{alone, named}
 use Rattle.rules.specs.Linear.{is_row, place_of}
 use Rattle.nodes.specs.Shown.{View, Worded, tree_of, number}
-use Rattle.nodes.proofs.Parts.{ranged, few}
+use Rattle.nodes.proofs.Parts.{ranged}
 use Rattle.nodes.proofs.Names.{marks-as, marks-put}
 use Rattle.nodes.proofs.Turns.{carries-in}
 use Rattle.places.specs.declared.Note.{Note}

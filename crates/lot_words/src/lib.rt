@@ -1,5 +1,6 @@
 // The words of a lot (E3 of document 02): two for each Burns clause that gives it a mark, then two for each counted occurrence of it.
 #![tactic(auto)]
+
 ghost use Rattle.std.specs.Prelude.{◌≡◌, List, [], ◌∷◌, ℕ, ◌+◌, ◌-◌, ◌<◌, ◌≤◌, ◌^◌};
 ghost use Rattle.image.specs.Pick.{pick};
 ghost use Rattle.rules.specs.Linear.{is_burned};

@@ -1,5 +1,6 @@
 // The three passes on an admitted image: the records of each, the verdict by the first of them, the records of all in one list.
 #![tactic(auto)]
+
 ghost use Rattle.std.specs.Prelude.{◌≡◌, List, ℕ, ◌+◌, ◌*◌, ◌≤◌, ◌^◌, length, replicate};
 ghost use Rattle.rules.specs.Vocabulary.{Rec};
 ghost use Rattle.rules.specs.Tree.{tree};

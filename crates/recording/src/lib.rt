@@ -1,6 +1,7 @@
 // Recorded answers, as recorded/README.md lays them out: their numbers are read, compared with answers that are given,
 // and each difference is told. Who gives the answers is no matter here.
 #![tactic(auto)]
+
 mod list;
 mod read;
 mod tell;

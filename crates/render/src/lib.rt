@@ -1,5 +1,6 @@
 // The report of document 01 as text, written into a lent buffer. What does not fit is not written; all of it is counted.
 #![tactic(auto)]
+
 ghost use Rattle.std.specs.Prelude.{◌≡◌, ◌+◌, ◌*◌, ◌<◌, ◌≤◌, ◌^◌, length};
 ghost use Rattle.rules.specs.Sweep.{run};
 ghost use Rattle.rules.specs.Answers.{list_answer};

@@ -1,5 +1,6 @@
 // Replays recorded/answers.bin through the public face and prints what differs. Its layout is in recorded/README.md.
 #![tactic(auto)]
+
 mod ask;
 mod lists;
 

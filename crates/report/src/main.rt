@@ -1,6 +1,7 @@
 // The report program: reads an image from standard input and prints the report of document 01.
 // A program sets no exit status, so a read or a write that fails is told on standard error.
 #![tactic(auto)]
+
 ghost use Rattle.std.specs.Prelude.{◌≡◌, length};
 
 use image::Image;

@@ -1,5 +1,6 @@
 // The resolve pass: codes 20 to 40 of document 01, as the pass's part of the list, the groups in order.
 #![tactic(auto)]
+
 ghost use Rattle.std.specs.Prelude.{◌≡◌, false, ◌++◌, ◌*◌, ◌<◌, ◌^◌};
 ghost use Rattle.rules.specs.Tree.{genesis};
 ghost use Rattle.rules.specs.Resolve.{group33, group35, resolve};

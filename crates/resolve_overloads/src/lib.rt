@@ -2,6 +2,7 @@
 // Where no two entries have one name there is nothing to compare. Else an entry is compared with those before it that share its key,
 // a number made of its name and its types, and only the first entry of each signature is kept to be compared with.
 #![tactic(auto)]
+
 ghost use Rattle.std.specs.Prelude.{◌≡◌, false, [], ℕ, ◌+◌, ◌*◌, ◌<◌, ◌≤◌, ◌^◌, ltb, eqb, get_or, set};
 ghost use Rattle.image.specs.Pick.{both};
 ghost use Rattle.rules.specs.Resolve.{signature, first_signed, group23};

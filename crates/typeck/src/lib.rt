@@ -1,5 +1,6 @@
 // The public face of the checker: any bytes in, an answer in document 01's numbers out. No function here asks anything of its caller.
 #![tactic(auto)]
+
 ghost use Rattle.std.specs.Prelude.{◌≡◌};
 ghost use Rattle.image.specs.Admit.{refusal};
 ghost use Rattle.rules.specs.Model.{is_state, is_declared_asset, is_known_asset};

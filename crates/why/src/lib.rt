@@ -1,5 +1,6 @@
 // Why a lot is refused (E3 of document 02): any bytes and any place in, the Burns clauses and the counted occurrences of the lot there out, two words each. The public function asks nothing of its caller.
 #![tactic(auto)]
+
 ghost use Rattle.std.specs.Prelude.{◌≡◌, ℕ, ◌<◌, ◌≤◌, ltb, eqb};
 ghost use Rattle.image.specs.Pick.{both};
 ghost use Rattle.nodes.specs.Shown.{View, In, Admitted, tree_of};

@@ -1,6 +1,5 @@
 -- `declared_writes` meets its contract: a walk over the head of the entry is one over all of it.
 use native.Mathlib.Omega.{arith}
-use Prim.Native.Nat.{◌-◌}
 use mathlib.Core.Path.{refl}
 use Rattle.rules.specs.Sweep.{has}
 use Rattle.nodes.proofs.Cursors.{before_last, past-last, still-over, on-to}

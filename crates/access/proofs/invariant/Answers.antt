@@ -1,7 +1,6 @@
 -- `invariant` meets its contract: another item has no 50; in an Invariant each node is asked.
 use native.Mathlib.Omega.{arith}
 use mathlib.Core.Path.{◌≡◌, ◌∙◌, sym, refl}
-use Prim.Native.Nat.{◌-◌}
 use Rattle.rules.specs.Tree.{ident}
 use Rattle.rules.specs.All.{entry_of}
 use Rattle.rules.specs.Access.{rule50}

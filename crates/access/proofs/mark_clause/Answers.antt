@@ -1,6 +1,5 @@
 -- `mark_clause` meets its contract: a clause of another kind is left out, and all below a Writes clause are Names.
 use borrow.Author.Rules.{rules}
-use Prim.Native.Nat.{◌-◌}
 use mathlib.Core.Path.{◌≡◌, sym, ◌∙◌}
 use mathlib.Core.Logic.{inl}
 use Rattle.rules.specs.Sweep.{same}

@@ -1,6 +1,5 @@
 -- `used_ok` meets its contract: every mark passed is set.
 use borrow.Author.Rules.{rules}
-use Prim.Native.Nat.{◌-◌}
 use mathlib.Core.Path.{sym}
 use Rattle.image.specs.Digits.{mark_at}
 use Rattle.image.proofs.Every.{every-none, every_more, every-fails, every-all}

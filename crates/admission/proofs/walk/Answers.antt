@@ -1,6 +1,6 @@
 -- `walk` meets its contract: `Walking` holds at each position, and a step leaves less of the walk.
 use native.Mathlib.Omega.{arith}
-use Prim.Native.Nat.{◌-◌, ◌<◌}
+use Prim.Native.Nat.{◌<◌}
 use mathlib.Core.Path.{◌≡◌, sym, ap, ◌∙◌}
 use mathlib.Core.Bool.{true}
 use Rattle.image.specs.Node.{kind_of}

@@ -1,6 +1,5 @@
 -- `below` meets its contract: up to k the two texts are equal, so their rests decide.
 use borrow.Author.Rules.{rules}
-use Prim.Native.Nat.{◌-◌}
 use mathlib.Core.Path.{refl, ◌∙◌, sym}
 use Rattle.image.proofs.Text.{less_done, less-prefix, less-differs, less-same}
 use Rattle.image.proofs.below.Goals as goal

@@ -1,6 +1,6 @@
 -- `find_items` meets its contract: of the kinds that are not found, no item stands before the one at hand.
 use native.Mathlib.Omega.{arith}
-use Prim.Native.Nat.{◌-◌, ◌<◌, ◌≤◌}
+use Prim.Native.Nat.{◌<◌, ◌≤◌}
 use mathlib.Core.Path.{refl, sym}
 use mathlib.Core.Bool.{true, false, true≢false}
 use Rattle.rules.specs.Sweep.{has}

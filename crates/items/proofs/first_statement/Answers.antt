@@ -1,6 +1,6 @@
 -- `first_statement` meets its contract: no child before the one at hand is a statement.
 use native.Mathlib.Omega.{arith}
-use Prim.Native.Nat.{ℕ, ◌-◌, ◌<◌, ◌≤◌}
+use Prim.Native.Nat.{ℕ, ◌<◌, ◌≤◌}
 use mathlib.Core.Path.{◌≡◌, refl, sym, ap, ◌∙◌}
 use Rattle.rules.specs.Sweep.{has}
 use Rattle.rules.specs.Tree.{statement as statements}

@@ -1,7 +1,6 @@
 -- `untrack` meets its contract: row by row, until no name of a row has anything noted.
 use native.Mathlib.Omega.{arith}
 use mathlib.Core.Path.{refl}
-use Prim.Native.Nat.{◌-◌}
 use Rattle.rules.specs.Vocabulary.{named}
 use Rattle.nodes.specs.Shown.{tree_of}
 use Rattle.nodes.proofs.Names.{marks-as}

@@ -1,7 +1,6 @@
 -- `burn_marks` meets its contract: a walk from child to child over the head of the entry.
 use borrow.Author.Rules.{rules}
 use native.Mathlib.Omega.{arith}
-use Prim.Native.Nat.{◌-◌}
 use mathlib.Core.Path.{refl}
 use Rattle.rules.specs.Sweep.{has}
 use Rattle.nodes.specs.First.{Until}

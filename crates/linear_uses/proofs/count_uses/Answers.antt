@@ -1,6 +1,5 @@
 -- `count_uses` meets its contract: one sweep that finds the counted occurrences and counts each on its row.
 use native.Mathlib.Omega.{arith}
-use Prim.Native.Nat.{◌-◌}
 use mathlib.Core.Path.{◌≡◌}
 use Rattle.nodes.specs.Shown.{In, tree_of}
 use Rattle.nodes.proofs.Spans.{span-whole, upto_is}

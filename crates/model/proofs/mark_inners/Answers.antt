@@ -1,6 +1,6 @@
 -- `mark_inners` meets its contract: a walk from item to item.
 use native.Mathlib.Omega.{arith}
-use Prim.Native.Nat.{◌-◌, ◌<◌, ◌≤◌}
+use Prim.Native.Nat.{◌<◌, ◌≤◌}
 use mathlib.Core.Path.{refl}
 use Rattle.nodes.specs.Shown.{In}
 use Rattle.nodes.proofs.Parts.{past}

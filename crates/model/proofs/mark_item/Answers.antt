@@ -1,7 +1,7 @@
 -- `mark_item` meets its contract: a walk over the types of the item.
 use borrow.Author.Rules.{rules}
 use native.Mathlib.Omega.{arith}
-use Prim.Native.Nat.{◌-◌, ◌<◌, ◌≤◌}
+use Prim.Native.Nat.{◌<◌, ◌≤◌}
 use mathlib.Core.Path.{sym, ap}
 use mathlib.Core.Bool.{Bool, true}
 use Rattle.rules.specs.Sweep.{also}

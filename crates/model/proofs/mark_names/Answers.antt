@@ -1,7 +1,6 @@
 -- `mark_names` meets its contract: a walk over the items and the fields of the contract leaves out none of this kind.
 use borrow.Author.Rules.{rules}
 use native.Mathlib.Omega.{arith}
-use Prim.Native.Nat.{◌-◌}
 use mathlib.Core.List.{[], ◌∷◌}
 use Rattle.rules.specs.Tree.{declarations}
 use Rattle.rules.specs.Vocabulary.{declares}

@@ -1,7 +1,6 @@
 -- `alike` meets its contract: up to k the two texts are the same, so their rests decide.
 use borrow.Author.Rules.{rules}
 use native.Mathlib.Omega.{arith}
-use Prim.Native.Nat.{◌-◌}
 use mathlib.Core.Path.{refl, sym, ◌∙◌}
 use Rattle.name_table.proofs.Fours.{four_same}
 use Rattle.name_table.proofs.alike.Goals as goal

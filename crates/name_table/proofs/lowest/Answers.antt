@@ -1,7 +1,6 @@
 -- `lowest` meets its contract: the lowest class so far is one exactly when every byte passed is of a class.
 use borrow.Author.Rules.{rules}
 use native.Mathlib.Omega.{arith}
-use Prim.Native.Nat.{◌-◌}
 use mathlib.Core.Path.{◌≡◌, sym, ap, ◌∙◌}
 use lib.ListN.{length}
 use Rattle.image.specs.Pick.{every}

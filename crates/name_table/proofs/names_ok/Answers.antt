@@ -1,7 +1,6 @@
 -- `names_ok` meets its contract: every byte is of a class, every name passed is in order, and p and a are the offsets before and at place k.
 use borrow.Author.Rules.{rules}
 use native.Mathlib.Omega.{arith}
-use Prim.Native.Nat.{◌-◌}
 use mathlib.Core.Path.{◌≡◌, sym, ◌∙◌}
 use borrow.Author.Tests.{lt-leb, le-leb}
 use Rattle.image.specs.Pick.{every}

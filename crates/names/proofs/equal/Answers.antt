@@ -1,6 +1,5 @@
 -- `equal` meets its contract: the bytes before k are equal.
 use native.Mathlib.Omega.{arith}
-use Prim.Native.Nat.{◌-◌}
 use borrow.Author.Count.{below_more}
 use Rattle.names.proofs.Bytes.{same_bytes, other_length, other_byte}
 use Rattle.names.proofs.equal.Goals as goal

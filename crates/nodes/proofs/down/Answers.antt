@@ -2,7 +2,7 @@
 use native.Mathlib.Omega.{arith}
 use mathlib.Core.Path.{◌≡◌, ◌∙◌, sym, ap}
 use mathlib.Core.Bool.{not}
-use Prim.Native.Nat.{ℕ, ◌-◌}
+use Prim.Native.Nat.{ℕ}
 use Rattle.rules.specs.Sweep.{has}
 use Rattle.nodes.specs.Shown.{View, tree_of}
 use Rattle.nodes.specs.Past.{taken_off}

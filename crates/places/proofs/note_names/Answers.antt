@@ -1,7 +1,6 @@
 -- `note_names` meets its contract: a walk over the items and the fields of the contract.
 use borrow.Author.Rules.{rules}
 use native.Mathlib.Omega.{arith}
-use Prim.Native.Nat.{◌-◌}
 use mathlib.Core.Path.{refl}
 use mathlib.Core.List.{[], ◌∷◌}
 use Rattle.rules.specs.Tree.{declarations}

@@ -1,6 +1,5 @@
 -- `note_until` meets its contract: a walk over the children before which all such parts stand is one over all of them.
 use native.Mathlib.Omega.{arith}
-use Prim.Native.Nat.{◌-◌}
 use mathlib.Core.Path.{refl}
 use Rattle.nodes.proofs.Until.{one_end, until-starts, until-moves, until-walks, until-done}
 use Rattle.nodes.proofs.Cursors.{before_last, past-last, still-over, on-to}

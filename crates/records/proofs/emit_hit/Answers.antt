@@ -1,6 +1,5 @@
 -- `emit_hit` meets its contract: no record, or one.
 use mathlib.Core.Path.{sym, ap}
-use mathlib.Core.Path.{ap, sym}
 use Rattle.records.specs.declared.Hit.{Hit}
 use Rattle.records.specs.Records.{hit_list}
 use Rattle.records.proofs.Laws.{added-nothing, added-as}

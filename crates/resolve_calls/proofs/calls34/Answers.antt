@@ -1,6 +1,5 @@
 -- `calls34` meets its contract: one sweep over the nodes that are lent.
 use native.Mathlib.Omega.{arith}
-use Prim.Native.Nat.{◌-◌}
 use Rattle.records.proofs.Laws.{asked, held_all}
 use Rattle.records.proofs.Sweep.{sweep-again, sweep-long}
 use Rattle.nodes.proofs.Spans.{span-whole, upto_is, whole-starts, whole-swept}

@@ -1,7 +1,6 @@
 -- `mark_fields` meets its contract: a walk over items and fields in which a later FieldDecl replaces an earlier one's mark.
 use borrow.Author.Rules.{rules}
 use native.Mathlib.Omega.{arith}
-use Prim.Native.Nat.{◌-◌}
 use mathlib.Core.Path.{refl, sym}
 use Rattle.rules.specs.Sweep.{has}
 use Rattle.rules.specs.Tree.{field, declarations}

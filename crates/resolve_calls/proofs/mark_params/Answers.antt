@@ -1,6 +1,5 @@
 -- `mark_params` meets its contract: a walk over the head of the entry is one over all of it.
 use native.Mathlib.Omega.{arith}
-use Prim.Native.Nat.{◌-◌}
 use mathlib.Core.Path.{refl, sym, ap, ◌∙◌}
 use Rattle.rules.specs.Sweep.{has}
 use Rattle.nodes.specs.Marks.{marking}

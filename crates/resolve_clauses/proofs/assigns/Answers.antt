@@ -1,7 +1,6 @@
 -- `assigns` meets its contract: a walk from statement to statement of the Genesis.
 use borrow.Author.Rules.{rules}
 use native.Mathlib.Omega.{arith}
-use Prim.Native.Nat.{◌-◌}
 use mathlib.Core.Path.{◌≡◌, refl}
 use Rattle.rules.specs.Sweep.{has}
 use Rattle.records.proofs.Laws.{asked, held_all}

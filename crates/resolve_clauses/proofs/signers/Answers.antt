@@ -1,5 +1,4 @@
 -- `signers` meets its contract: a walk over the head of the entry is one over all of it.
-use Prim.Native.Nat.{◌-◌}
 use mathlib.Core.Path.{refl}
 use Rattle.rules.specs.Sweep.{has}
 use Rattle.records.proofs.Sweep.{sweep-long}

@@ -1,5 +1,4 @@
 -- `words` meets its contract: one sweep over the range.
-use Prim.Native.Nat.{◌-◌}
 use borrow.Author.Rules.{rules}
 use mathlib.Core.Path.{refl}
 use native.Mathlib.Omega.{arith}

@@ -1,7 +1,6 @@
 -- `items32` meets its contract: a walk from item to item.
 use borrow.Author.Rules.{rules}
 use native.Mathlib.Omega.{arith}
-use Prim.Native.Nat.{◌-◌}
 use mathlib.Core.Path.{refl}
 use Rattle.rules.specs.Sweep.{has}
 use Rattle.records.proofs.Sweep.{sweep-long}

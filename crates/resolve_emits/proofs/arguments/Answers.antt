@@ -1,6 +1,6 @@
 -- `arguments` meets its contract: the cursor stands at one child of the Emit after another, and counts them.
 use native.Mathlib.Omega.{arith}
-use Prim.Native.Nat.{◌-◌, ◌<◌, ◌≤◌}
+use Prim.Native.Nat.{◌<◌, ◌≤◌}
 use mathlib.Core.Path.{refl}
 use Rattle.nodes.specs.Shown.{In}
 use Rattle.nodes.proofs.Shapes.{within}

@@ -1,6 +1,5 @@
 -- `emits` meets its contract: a walk from item to item.
 use native.Mathlib.Omega.{arith}
-use Prim.Native.Nat.{◌-◌}
 use mathlib.Core.Path.{refl}
 use Rattle.rules.specs.Resolve.{emits}
 use Rattle.records.proofs.Sweep.{sweep-long}

@@ -1,8 +1,6 @@
 -- `statements` meets its contract: a walk from statement to statement, since an Emit is one; they all stand in the entry that is told.
 use borrow.Author.Rules.{rules}
 use native.Mathlib.Omega.{arith}
-use Prim.Native.Nat.{◌-◌}
-use mathlib.Core.Path.{refl}
 use mathlib.Core.Path.{refl}
 use Rattle.rules.specs.Sweep.{has}
 use Rattle.records.proofs.Laws.{held_all}

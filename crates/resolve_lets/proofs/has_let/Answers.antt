@@ -1,8 +1,8 @@
 -- `has_let` meets its contract: no child before the one at hand is a Let, or holds one.
 use native.Mathlib.Omega.{arith}
-use Prim.Native.Nat.{◌-◌, ◌<◌, ◌≤◌}
+use Prim.Native.Nat.{◌<◌, ◌≤◌}
 use mathlib.Core.Path.{refl, ◌∙◌}
-use mathlib.Core.Bool.{false, true≢false}
+use mathlib.Core.Bool.{true≢false}
 use Rattle.nodes.specs.Shown.{In}
 use Rattle.nodes.proofs.Shapes.{within}
 use Rattle.nodes.proofs.Spans.{child-on}

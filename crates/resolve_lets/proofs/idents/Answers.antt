@@ -1,7 +1,6 @@
 -- `idents` meets its contract: one sweep over the nodes of the statement.
 use borrow.Author.Rules.{rules}
 use native.Mathlib.Omega.{arith}
-use Prim.Native.Nat.{◌-◌}
 use Rattle.records.proofs.Laws.{asked, held_all}
 use Rattle.records.proofs.Sweep.{sweep-long}
 use Rattle.nodes.specs.Shown.{In}

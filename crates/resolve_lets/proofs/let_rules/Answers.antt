@@ -1,5 +1,4 @@
 -- `let_rules` meets its contract: without a Let there is nothing; else the Lets are noted, the statements asked, and the notes taken off.
-use borrow.Author.Rules.{rules}
 use mathlib.Core.Path.{sym}
 use Rattle.rules.specs.Tree.{«let», statement as statements}
 use Rattle.records.proofs.Laws.{added-nothing, added-by}

@@ -1,7 +1,6 @@
 -- `statements` meets its contract: a walk from statement to statement, in each one a sweep over its Idents.
 use borrow.Author.Rules.{rules}
 use native.Mathlib.Omega.{arith}
-use Prim.Native.Nat.{◌-◌}
 use mathlib.Core.Path.{refl, sym}
 use Rattle.rules.specs.Sweep.{has}
 use Rattle.records.proofs.Laws.{held_all, held-as, added-by, added-as, added-join}

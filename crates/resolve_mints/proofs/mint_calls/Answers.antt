@@ -1,6 +1,5 @@
 -- `mint_calls` meets its contract: a walk from item to item.
 use native.Mathlib.Omega.{arith}
-use Prim.Native.Nat.{◌-◌}
 use mathlib.Core.Path.{refl}
 use Rattle.rules.specs.Sweep.{has}
 use Rattle.rules.specs.Resolve.{mint_calls}

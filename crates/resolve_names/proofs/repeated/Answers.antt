@@ -1,7 +1,7 @@
 -- `repeated` meets its contract: a walk over the items and the fields of the contract, with the first of each name noted.
 use borrow.Author.Rules.{rules}
 use native.Mathlib.Omega.{arith}
-use Prim.Native.Nat.{◌+◌, ◌-◌, ◌<◌, ◌≤◌}
+use Prim.Native.Nat.{◌+◌, ◌<◌, ◌≤◌}
 use Rattle.rules.specs.Tree.{declarations}
 use Rattle.records.proofs.Laws.{asked-at-or}
 use Rattle.records.proofs.Sweep.{sweep-long}

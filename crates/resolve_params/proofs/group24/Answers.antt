@@ -1,7 +1,6 @@
 -- `group24` meets its contract: a walk from item to item, with nothing noted between them.
 use borrow.Author.Rules.{rules}
 use native.Mathlib.Omega.{arith}
-use Prim.Native.Nat.{◌-◌}
 use mathlib.Core.Path.{refl}
 use Rattle.rules.specs.Sweep.{has}
 use Rattle.rules.specs.Resolve.{group24}

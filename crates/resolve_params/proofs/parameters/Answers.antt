@@ -1,7 +1,7 @@
 -- `parameters` meets its contract: a walk over the head of the entry is one over all of it.
 use borrow.Author.Rules.{rules}
 use native.Mathlib.Omega.{arith}
-use Prim.Native.Nat.{◌+◌, ◌-◌, ◌<◌}
+use Prim.Native.Nat.{◌+◌, ◌<◌}
 use mathlib.Core.Path.{◌≡◌, refl, sym, subst}
 use Rattle.rules.specs.Sweep.{has}
 use Rattle.rules.specs.Tree.{param}
