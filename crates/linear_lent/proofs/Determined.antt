@@ -1,5 +1,5 @@
 -- What the contracts of the public forms settle: where an `ensures` holds of two results, they are equal, and so are the lent rows afterwards.
--- The functions are proved by hand, so the theorems speak of the clauses themselves, in any model of the logic.
+-- The theorems speak of the clauses themselves, in any model of the logic.
 use mathlib.Core.Path.{◌≡◌}
 use seplogic.Ra.Ura.{Ura}
 use base.Logic.{SProp, ent, sep, id⊢}

@@ -1,5 +1,5 @@
 // The linear pass in a table of rows that it is lent ("a table of tracked rows that the linear pass is lent" of document 01): the rows of a contract are stored there, then each is judged where it stands, and blanked.
-// Two functions hold the rows, and a third lends its own; their proofs are walks by hand; they call functions with plain parameters for all else.
+// Two functions hold the rows, and a third lends its own; they call functions with plain parameters for all else.
 #![tactic(auto)]
 
 ghost use Rattle.std.specs.Prelude.{◌≡◌, ◌≤◌, length, replicate};
@@ -15,7 +15,7 @@ use linear_steps::State;
 use linear_table::Row;
 use typeck::Verdict;
 
-// The steps, one after the other, in the rows that are lent. Proved by hand.
+// The steps, one after the other, in the rows that are lent.
 fn drive(cells: &[u16], rows: &mut [Row]) -> State
     requires { (length cells.now ≡ 2046) × (length rows.old ≡ 511) }
     ensures { (result ≡ (ran cells.now rows.old).0) × (rows.new ≡ (ran cells.now rows.old).1) }
@@ -68,7 +68,7 @@ fn refused_at(image: &[u8], code: u16, place: u16) -> Verdict
     }
 }
 
-// The verdict of the linear pass, by the rows that are lent. They are as they were where the image is refused, and blank otherwise. Proved by hand.
+// The verdict of the linear pass, by the rows that are lent. They are as they were where the image is refused, and blank otherwise.
 pub fn linear(image: &[u8], rows: &mut [Row]) -> Verdict
     requires { length rows.old ≡ 511 }
     ensures { JudgedIn image.now rows.old result rows.new }
@@ -86,7 +86,7 @@ fn blank() -> [Row; 511]
     [row; 511]
 }
 
-// The same, lent a table of this function's own: its parameters are plain, so whoever calls it is covered. Proved by hand.
+// The same, lent a table of this function's own, for whoever has no rows: its parameters are plain.
 pub fn linear_here(image: &[u8]) -> Verdict
     ensures { Judged linear image.now result }
 {
