@@ -105,14 +105,14 @@ fn what_the_toolchain_keeps_counts_for_nothing() {
     let folder = archive(&root, Some(&made_from(&root)));
     let sources = choose::sources(&root);
     for part in ["src/lib.rt", "specs/Lib.antt", "proofs/Lib.antt"] {
-        write(&root.join("crates/image/out/rlib/image.rlib/lang").join(part), "kept");
+        write(&root.join("crates/image").join("out/rlib/image.rlib/lang").join(part), "kept");
     }
     assert!(named(&folder, &root).is_ok());
     assert_eq!(choose::sources(&root), sources);
     let parts = ["crates/image/proofs", "crates/image/src", "crates/isonkaypu/src", "crates.txt"];
     assert_eq!(sources, parts.map(|part| root.join(part)));
     // a function that is called `out` is proved like any other
-    write(&root.join("crates/image/proofs/out/Answers.antt"), "its proof");
+    write(&root.join("crates/image/proofs").join("out/Answers.antt"), "its proof");
     refused(&folder, &root, "made from other crates");
 }
 
