@@ -2,7 +2,7 @@
  * SPDX-License-Identifier: Apache-2.0 OR MIT
  *
  * isonkaypu.h: the proved checker for C and C++. These are all the functions of libisonkaypu.a.
- * `page/isonkaypu-sys/archive` makes the library; of the C library it needs `memset` and nothing else.
+ * `page/isonkaypu-sys/archive` makes the library; of the C library it needs `memcpy` and `memset`, no more.
  *
  * What a caller guarantees
  *   - A pointer with a length points to that many elements: bytes of an image or a name, 16-bit

@@ -104,9 +104,9 @@ image the published Rust was run too, and gave the same code and place for each 
 related words, the entries and the refusals are the reference's alone, since the Rust stops at its
 first error and knows no image. The same command writes the same bytes again.
 
-`answers.bin` is a link to `crates/replay/stdin`, since `rt` follows no link there: the program
-`replay` reads it on every `rt check` and must find that nothing differs. How it is read and compared
-is `crates/recording`.
+`crates/replay/stdin` is the same file once more, since `rt` follows no link: the program `replay` reads
+it on every `rt ci` and must find that nothing differs, and the tests hold the two to each other. How it
+is read and compared is `crates/recording`.
 
 `recorded/replay FILE..` replays any recordings: it prints each difference, then how many images
 there were, and ends with 0 only where nothing differs. The program takes recordings of less than

@@ -13,7 +13,7 @@ const SCRIPTS: &str = "page/isonkaypu-sys";
 const WHAT_TO_RUN: &str = "`page/isonkaypu-sys/archive` makes it, on a machine with the Rattle toolchain, and prints its \
                            folder, for ISONKAYPU_STATICLIB";
 /// Said before the archive is made, since that can take long.
-const TAKES: &str = "it is proved and compiled now: about 10 minutes from nothing on two cores, seconds where it is \
+const TAKES: &str = "it is proved and compiled now: a quarter of an hour or more from nothing, seconds where it is \
                      proved already";
 
 /// An archive that may be linked.
@@ -39,15 +39,22 @@ pub fn own(folder: &Path, root: &Path, tell: impl Fn(&str)) -> Result<Chosen, St
     })
 }
 
-/// The files that decide what the library is, as far as they stand here.
+/// The list of the crates, and their folder.
+const CRATES: [&str; 2] = ["crates.txt", "crates"];
+
+/// The files and folders that decide what the library is, as far as they stand here: not what the toolchain keeps
+/// beside them.
 pub fn sources(root: &Path) -> Vec<PathBuf> {
-    let all = ["crates.txt", "crates"].map(|name| root.join(name));
-    all.into_iter().filter(|path| path.exists()).collect()
+    let crates = fs::read_dir(root.join(CRATES[1])).into_iter().flatten().flatten().map(|entry| entry.path());
+    let parts = crates.flat_map(|folder| ["src", "specs", "proofs"].map(|part| folder.join(part)));
+    let mut found: Vec<PathBuf> = parts.chain([root.join(CRATES[0])]).filter(|path| path.exists()).collect();
+    found.sort();
+    found
 }
 
 /// What a library made here would be made from; nothing where the crates do not stand beside `page`.
 fn here(root: &Path) -> Result<Option<String>, String> {
-    if sources(root).is_empty() {
+    if !CRATES.iter().any(|name| root.join(name).exists()) {
         return Ok(None);
     }
     let said = run(&root.join(SCRIPTS).join(NOTE))?;

@@ -30,12 +30,13 @@ impl Drop for Folder {
     }
 }
 
-/// A repository with one crate, and the scripts as they are.
+/// A repository with two crates, the second being the library's own, and the scripts as they are.
 fn repository(name: &str) -> Folder {
     let root = Folder(std::env::temp_dir().join(format!("isonkaypu-{}-{name}", std::process::id())));
     write(&root.join("crates.txt"), "image:\n");
     write(&root.join("crates/image/src/lib.rt"), "one");
     write(&root.join("crates/image/proofs/Lib.antt"), "proof");
+    write(&root.join("crates/isonkaypu/src/lib.rt"), "the face");
     for script in ["archive", "made-from"] {
         let text = fs::read_to_string(Path::new(env!("CARGO_MANIFEST_DIR")).join(script)).expect(script);
         program(&root.join("page/isonkaypu-sys").join(script), &text);
@@ -95,6 +96,24 @@ fn a_named_archive_that_was_made_from_what_stands_here() {
     let folder = archive(&root, Some(&here));
     let made_from = here.trim_end().to_string();
     assert_eq!(named(&folder, &root), Ok(Chosen { folder, made_from }));
+}
+
+/// The toolchain keeps copies of a crate's files beside them: the library is not made from these.
+#[test]
+fn what_the_toolchain_keeps_counts_for_nothing() {
+    let root = repository("kept");
+    let folder = archive(&root, Some(&made_from(&root)));
+    let sources = choose::sources(&root);
+    for part in ["src/lib.rt", "specs/Lib.antt", "proofs/Lib.antt"] {
+        write(&root.join("crates/image").join("out/rlib/image.rlib/lang").join(part), "kept");
+    }
+    assert!(named(&folder, &root).is_ok());
+    assert_eq!(choose::sources(&root), sources);
+    let parts = ["crates/image/proofs", "crates/image/src", "crates/isonkaypu/src", "crates.txt"];
+    assert_eq!(sources, parts.map(|part| root.join(part)));
+    // a function that is called `out` is proved like any other
+    write(&root.join("crates/image/proofs").join("out/Answers.antt"), "its proof");
+    refused(&folder, &root, "made from other crates");
 }
 
 #[test]
@@ -161,11 +180,12 @@ fn where_no_crates_stand_beside() {
     assert!(named(&folder, &root).is_err());
 }
 
-/// A toolchain that makes an archive of what stands in the repository, and notes that it was asked.
+/// A toolchain that makes an archive of what stands in the repository, in the folder of the library's own crate, and
+/// notes that it was asked.
 const RT: &str = r#"#!/bin/sh
 case $1 in
 version) echo "a kit" ;;
-staticlib) mkdir -p target/staticlib && cat crates/image/src/lib.rt >target/staticlib/libisonkaypu.a && echo >>asked ;;
+lib) mkdir -p out && cat ../image/src/lib.rt >"out/lib$(basename "$PWD").a" && echo >>../../asked ;;
 *) exit 1 ;;
 esac
 "#;
@@ -206,7 +226,7 @@ fn the_repositorys_own_is_made_anew_where_it_is_another() {
     let told = told.borrow();
     let whys = ["is not there", "made from other crates", "nobody says what the library was made from"];
     for (what, why) in told.iter().zip(whys) {
-        assert!(what.contains(why) && what.contains("about 10 minutes"), "{what}");
+        assert!(what.contains(why) && what.contains("a quarter of an hour or more"), "{what}");
     }
     assert_eq!(told.len(), whys.len());
 }
@@ -227,7 +247,7 @@ fn what_cannot_be_made_is_not_linked() {
 #[test]
 fn crates_that_change_meanwhile() {
     let root = repository("meanwhile");
-    with_toolchain(&root, &RT.replace("echo >>asked", "echo changed >crates/image/src/lib.rt"));
+    with_toolchain(&root, &RT.replace("echo >>../../asked", "echo changed >../image/src/lib.rt"));
     assert!(own(&root.join("target/staticlib"), &root, |_| {}).is_err());
     assert!(!root.join("target/staticlib/made-from").exists());
 }
