@@ -3,6 +3,8 @@ use Prim.Native.Nat.{ℕ, zero, suc, ◌+◌, ◌*◌, ◌-◌, ◌<◌, ◌≤�
 use mathlib.Core.Path.{◌≡◌, refl, ap, ◌∙◌}
 use mathlib.Core.Bool.{Bool, true, false, not}
 use mathlib.Core.List.{List}
+use mathlib.Core.Logic.{⊎_elim}
+use native.Mathlib.Nat.{eq-or-lt_of_le, le_of_suc-le-suc}
 use native.Mathlib.Numerals.{add-one}
 use native.Mathlib.Omega.{arith}
 use borrow.Author.Tests.{le-leb, lt-leb}
@@ -11,7 +13,7 @@ use Rattle.image.specs.Node.{half}
 use Rattle.recording.specs.declared.tell.Numbers.{Numbers}
 use Rattle.recording.specs.declared.list.Part.{Part}
 use Rattle.recording.specs.declared.list.Parts.{Parts}
-use Rattle.recording.specs.Told.{numbers, alike, difference, record_words, record_bytes, record_at, record_in, other_records}
+use Rattle.recording.specs.Told.{numbers, alike, difference, record_words, record_bytes, record_at, record_in, other_record, other_records}
 use Rattle.recording.specs.Told.{run_below, part_of, parts_of}
 
 pub added : {a a' b b' : ℕ} → a ≡ a' → b ≡ b' → a + b ≡ a' + b'
@@ -48,6 +50,15 @@ counted : (b : Bool) (d c x : ℕ) → d ≡ c → x ≡ pick b 0 1 → d + x �
 counted true d c x e h = omega arith
 counted false d c x e h = omega arith
 
+-- .. and what is counted stays so
+is-counted : (b : Bool) (c : ℕ) → 0 < pick b 0 1 → 0 < pick (not b) (c + 1) c
+is-counted true c h = absurd (omega arith)
+is-counted false c h = omega arith
+
+stays-counted : (b : Bool) (c : ℕ) → 0 < c → 0 < pick (not b) (c + 1) c
+stays-counted true c h = h
+stays-counted false c h = omega arith
+
 module _ (s : List ℕ) (at : ℕ) (head : Numbers) (w : List ℕ) where
   pub others-none : 0 ≡ other_records s at head w 0
   unfolding count
@@ -59,6 +70,18 @@ module _ (s : List ℕ) (at : ℕ) (head : Numbers) (w : List ℕ) where
   unfolding count
   others-more i d x e h =
       rw add-one (counted (alike (record_at s (at + record_bytes * i) head) (record_in w (record_words * i) head)) d _ x e h)
+
+  -- a record that differs is counted
+  pub others-one : (i n : ℕ) → i < n → 0 < difference (record_at s (at + record_bytes * i) head) (record_in w (record_words * i) head)
+      → 0 < other_records s at head w n
+  unfolding count
+  others-one i zero l h = absurd (omega arith)
+  others-one i (suc n) l h =
+      ⊎_elim
+      (λ q. let e = ap (λ (k : ℕ). difference (record_at s (at + record_bytes * k) head) (record_in w (record_words * k) head)) q in
+      is-counted (alike (record_at s (at + record_bytes * n) head) (record_in w (record_words * n) head)) (count (other_record s at head w) n) (omega arith))
+      (λ l. stays-counted (alike (record_at s (at + record_bytes * n) head) (record_in w (record_words * n) head)) (count (other_record s at head w) n) (others-one i n l h))
+      (eq-or-lt_of_le (le_of_suc-le-suc l))
 
   pub others-all : (i n d : ℕ) → d ≡ other_records s at head w i → i ≡ n → d ≡ other_records s at head w n
   others-all i n d e h = e ∙ ap (other_records s at head w) h

@@ -1,10 +1,11 @@
 // The records of a recorded list: the part of each pass, and a part against the words of an answer.
-ghost use Rattle.std.specs.Prelude.{◌≡◌, ◌+◌, ◌*◌, ◌≤◌, length};
+ghost use Rattle.std.specs.Prelude.{◌≡◌, ◌+◌, ◌*◌, ◌<◌, ◌≤◌, length, IfOk, OnErr};
 ghost use Rattle.recording.specs.Told.{numbers, difference, record_words, record_bytes, record_at, record_in, Within};
 ghost use Rattle.recording.specs.Told.{other_records, list_differences, run_below, parts_of};
 
 use crate::tell::{Case, Numbers};
 use crate::{read, tell};
+use std::io;
 
 // Codes below 50 are resolve's, from there to 59 access's, and the rest linear's.
 const ACCESS: usize = 50;
@@ -68,6 +69,7 @@ fn answered_with(words: &[u16], k: usize, head: Numbers) -> Numbers
 
 // A recorded record against the one of an answer: 1 where they differ, which is told.
 fn record_differs(
+    rt: &impl Print,
     case: Case,
     asked: &[u8],
     file: &[u8],
@@ -75,25 +77,36 @@ fn record_differs(
     words: &[u16],
     k: usize,
     head: Numbers,
-) -> usize
+) -> io::Result<usize>
     requires { (at + record_bytes ≤ length file.now) × (k + record_words ≤ length words.now) }
-    ensures { (result ≡ difference (record_at file.now at head) (record_in words.now k head)) × (result ≤ 1) }
+    ensures ok { IfOk result (λ n. (n ≡ difference (record_at file.now at head) (record_in words.now k head)) × (n ≤ 1)) }
+    ensures err { OnErr result (0 < difference (record_at file.now at head) (record_in words.now k head)) }
 {
     let recorded = recorded_with(file, at, head);
     let answered = answered_with(words, k, head);
-    tell::differs(case, asked, recorded, answered)
+    tell::differs(rt, case, asked, recorded, answered)
 }
 
 // How many of the recorded records, as many as `head` says, are not the answer's.
-fn others(case: Case, asked: &[u8], file: &[u8], at: usize, words: &[u16], head: Numbers) -> usize
+fn others(
+    rt: &impl Print,
+    case: Case,
+    asked: &[u8],
+    file: &[u8],
+    at: usize,
+    words: &[u16],
+    head: Numbers,
+) -> io::Result<usize>
     requires { (at + record_bytes * head.1 ≤ length file.now) × (record_words * head.1 ≤ length words.now) }
-    ensures { (result ≡ other_records file.now at head words.now head.1) × (result ≤ head.1) }
+    ensures ok { IfOk result (λ n. (n ≡ other_records file.now at head words.now head.1) × (n ≤ head.1)) }
+    ensures err { OnErr result (0 < other_records file.now at head words.now head.1) }
 {
     let count = head.1;
     let mut differ = 0;
     let mut i = 0;
     while i < count {
         differ += record_differs(
+            rt,
             case,
             asked,
             file,
@@ -101,10 +114,10 @@ fn others(case: Case, asked: &[u8], file: &[u8], at: usize, words: &[u16], head:
             words,
             RECORD_WORDS * i,
             head,
-        );
+        )?;
         i += 1;
     }
-    differ
+    Ok(differ)
 }
 
 // How many records the list starts with whose codes are below `code`.
@@ -144,17 +157,19 @@ pub fn parts_of(file: &[u8], at: usize, count: usize) -> Parts
 
 // An answer and its words against a part of the recorded list: how many differ of its head and its records. Each is told.
 pub fn records_differ(
+    rt: &impl Print,
     case: Case,
     asked: &[u8],
     file: &[u8],
     part: Part,
     answer: Numbers,
     words: &[u16],
-) -> usize
+) -> io::Result<usize>
     requires { Within file.now part × (record_words * part.count ≤ length words.now) }
-    ensures { (result ≡ list_differences case.refusal file.now part answer words.now) × (result ≤ part.count + 1) }
+    ensures ok { IfOk result (λ n. (n ≡ list_differences case.refusal file.now part answer words.now) × (n ≤ part.count + 1)) }
+    ensures err { OnErr result (0 < list_differences case.refusal file.now part answer words.now) }
 {
     let head = Numbers(case.refusal, part.count, 0, 0, 0, 0);
-    let first = tell::differs(case, asked, head, answer);
-    first + others(case, asked, file, part.at, words, head)
+    let first = tell::differs(rt, case, asked, head, answer)?;
+    Ok(first + others(rt, case, asked, file, part.at, words, head)?)
 }

@@ -1,9 +1,11 @@
-// What is printed of the recorded answers: a line for each difference, and how many there are.
-ghost use Rattle.std.specs.Prelude.{◌≡◌, ◌+◌, ◌<◌, ◌≤◌, length};
+// What is printed of the recorded answers: a line for each difference, and how many there are. A write that fails ends
+// it, and its error is the answer.
+ghost use Rattle.std.specs.Prelude.{◌≡◌, ◌+◌, ◌<◌, ◌≤◌, length, IfOk, OnErr};
 ghost use Rattle.image.specs.Pick.{both};
 ghost use Rattle.recording.specs.Told.{alike, difference, verdict_at, reply_at};
 
 use crate::read;
+use std::io;
 
 // An answer as numbers, 0 where it has fewer. Of a pass: refusal, code, place, span words. Of a list: refusal, how many
 // records, and the code, place, related and entry word of one that differs. Of a question: refusal, and 1 for yes.
@@ -24,31 +26,27 @@ pub struct Case {
     pub refusal: usize,
 }
 
-pub fn text(t: &[u8]) {
-    if !io::write_all(1, t) {
-        os::fail(b"replay: standard output");
-    }
+pub fn text(rt: &impl Print, t: &[u8]) -> io::Result<()> {
+    rt.write_all(t)
 }
 
-fn number(n: usize) {
-    if !io::print_decimal(1, n as u64) {
-        os::fail(b"replay: standard output");
-    }
+fn number(rt: &impl Print, n: usize) -> io::Result<()> {
+    rt.print(n)
 }
 
 // A number with text before it.
-fn pair(t: &[u8], n: usize) {
-    text(t);
-    number(n);
+fn pair(rt: &impl Print, t: &[u8], n: usize) -> io::Result<()> {
+    text(rt, t)?;
+    number(rt, n)
 }
 
-fn six(t: &[u8], n: Numbers) {
-    pair(t, n.0);
-    pair(b" ", n.1);
-    pair(b" ", n.2);
-    pair(b" ", n.3);
-    pair(b" ", n.4);
-    pair(b" ", n.5);
+fn six(rt: &impl Print, t: &[u8], n: Numbers) -> io::Result<()> {
+    pair(rt, t, n.0)?;
+    pair(rt, b" ", n.1)?;
+    pair(rt, b" ", n.2)?;
+    pair(rt, b" ", n.3)?;
+    pair(rt, b" ", n.4)?;
+    pair(rt, b" ", n.5)
 }
 
 // Whether both of two hold.
@@ -67,32 +65,54 @@ pub fn same(a: Numbers, b: Numbers) -> bool
     both(a.0 == b.0, both(a.1 == b.1, later))
 }
 
-fn line(image: usize, asked: &[u8], recorded: Numbers, answered: Numbers) {
-    pair(b"image ", image);
-    text(b", ");
-    text(asked);
-    six(b": recorded ", recorded);
-    six(b", answered ", answered);
-    text(b"\n");
+fn line(
+    rt: &impl Print,
+    image: usize,
+    asked: &[u8],
+    recorded: Numbers,
+    answered: Numbers,
+) -> io::Result<()> {
+    pair(rt, b"image ", image)?;
+    text(rt, b", ")?;
+    text(rt, asked)?;
+    six(rt, b": recorded ", recorded)?;
+    six(rt, b", answered ", answered)?;
+    text(rt, b"\n")
 }
 
 // 1 where the answer is not the recorded one, which is then told.
-pub fn differs(case: Case, asked: &[u8], recorded: Numbers, answered: Numbers) -> usize
-    ensures { (result ≡ difference recorded answered) × (result ≤ 1) }
+pub fn differs(
+    rt: &impl Print,
+    case: Case,
+    asked: &[u8],
+    recorded: Numbers,
+    answered: Numbers,
+) -> io::Result<usize>
+    ensures ok { IfOk result (λ n. (n ≡ difference recorded answered) × (n ≤ 1)) }
+    ensures err { OnErr result (0 < difference recorded answered) }
 {
     if same(recorded, answered) {
-        return 0;
+        return Ok(0);
     }
-    line(case.number, asked, recorded, answered);
-    1
+    line(rt, case.number, asked, recorded, answered)?;
+    Ok(1)
 }
 
 // A pass's answer against the recorded verdict.
-pub fn verdict_differs(case: Case, asked: &[u8], file: &[u8], at: usize, answer: Numbers) -> usize
+pub fn verdict_differs(
+    rt: &impl Print,
+    case: Case,
+    asked: &[u8],
+    file: &[u8],
+    at: usize,
+    answer: Numbers,
+) -> io::Result<usize>
     requires { at + 12 ≤ length file.now }
-    ensures { (result ≡ difference (verdict_at file.now at case.refusal) answer) × (result ≤ 1) }
+    ensures ok { IfOk result (λ n. (n ≡ difference (verdict_at file.now at case.refusal) answer) × (n ≤ 1)) }
+    ensures err { OnErr result (0 < difference (verdict_at file.now at case.refusal) answer) }
 {
     differs(
+        rt,
         case,
         asked,
         read::verdict_at(file, at, case.refusal),
@@ -101,17 +121,25 @@ pub fn verdict_differs(case: Case, asked: &[u8], file: &[u8], at: usize, answer:
 }
 
 // The answer to a question against the recorded one.
-pub fn answer_differs(case: Case, asked: &[u8], file: &[u8], at: usize, answer: Numbers) -> usize
+pub fn answer_differs(
+    rt: &impl Print,
+    case: Case,
+    asked: &[u8],
+    file: &[u8],
+    at: usize,
+    answer: Numbers,
+) -> io::Result<usize>
     requires { at < length file.now }
-    ensures { (result ≡ difference (reply_at file.now at case.refusal) answer) × (result ≤ 1) }
+    ensures ok { IfOk result (λ n. (n ≡ difference (reply_at file.now at case.refusal) answer) × (n ≤ 1)) }
+    ensures err { OnErr result (0 < difference (reply_at file.now at case.refusal) answer) }
 {
     let recorded = Numbers(case.refusal, read::u8_at(file, at), 0, 0, 0, 0);
-    differs(case, asked, recorded, answer)
+    differs(rt, case, asked, recorded, answer)
 }
 
 // How many images were read, and how many answers differ.
-pub fn summary(images: usize, differ: usize) {
-    pair(b"", images);
-    pair(b" images, ", differ);
-    text(b" differ\n");
+pub fn summary(rt: &impl Print, images: usize, differ: usize) -> io::Result<()> {
+    pair(rt, b"", images)?;
+    pair(rt, b" images, ", differ)?;
+    text(rt, b" differ\n")
 }

@@ -1,11 +1,13 @@
 -- What the answers of the face add to the count, and the laws of the steps through the file.
 use Prim.Native.Nat.{ℕ, zero, suc, ◌+◌, ◌*◌, ◌-◌, ◌<◌, ◌≤◌}
-use mathlib.Core.Path.{◌≡◌, refl, ap, sym, ◌∙◌}
+use mathlib.Core.Path.{◌≡◌, refl, ap, sym, ◌∙◌, subst}
 use mathlib.Core.Bool.{Bool, true, false, not}
 use mathlib.Core.List.{List}
 use native.Mathlib.Omega.{arith}
 use borrow.Author.Tests.{eq-eqb, ne_eqb, lt-ltb, le-ltb}
 use lib.ListN.{length, get_or, take, drop}
+use Rattle.std.specs.Prelude.{Result, Ok, Err}
+use Rattle.std.specs.Result.{IfOk, OnErr}
 use Rattle.image.specs.Node.{full_word}
 use Rattle.rules.specs.Tree.{Tree}
 use Rattle.rules.specs.Vocabulary.{Rec}
@@ -27,7 +29,20 @@ use Rattle.replay.specs.Differences.{of_verdict, of_reply, of_listed, pass_diffe
 use Rattle.replay.specs.Differences.{verdict_differences, question_difference, question_differences, listed_for, words_for}
 use Rattle.replay.specs.Differences.{words_in, zeros, list_difference, short_difference, lists_differences, step_to}
 use Rattle.replay.specs.Differences.{ends_early, after, steps, name_by, name_step, names_step, answer_differences}
-use Rattle.replay.specs.Differences.{answers_by, answers_step, image_by, image_step}
+use Rattle.replay.specs.Differences.{answers_by, answers_step, image_by, image_step, told, name_told, names_told}
+use Rattle.replay.specs.Differences.{answers_told, answers_told_by, image_told, image_told_by}
+
+-- What is said of an answer is said of one that is equal to it
+
+pub counts-as : {E : Type 0} {a b m k : ℕ} (r : Result ℕ E) → a ≡ b → m ≤ k → IfOk r (λ (n : ℕ). (n ≡ a) × (n ≤ m)) → IfOk r (λ (n : ℕ). (n ≡ b) × (n ≤ k))
+counts-as (Ok n) e l h = (h.0 ∙ e, omega arith)
+counts-as (Err x) e l h = tt
+
+pub steps-as : {E : Type 0} {a b : Step} (r : Result Step E) → a ≡ b → IfOk r (λ (step : Step). step ≡ a) → IfOk r (λ (step : Step). step ≡ b)
+steps-as r e h = subst (λ (m : Step). IfOk r (λ (step : Step). step ≡ m)) e h
+
+pub fails-as : {T E : Type 0} {a b : ℕ} (r : Result T E) → a ≡ b → OnErr r (0 < a) → OnErr r (0 < b)
+fails-as r e h = subst (λ (m : ℕ). OnErr r (0 < m)) e h
 
 -- The answers
 
@@ -36,10 +51,19 @@ pub judged-differs : (pass : Tree → List Rec) (f : List ℕ) (at n : ℕ) (s :
 unfolding pass_difference
 judged-differs pass f at n s e J = e ∙ ap (λ (v : Verdict). difference (verdict_at f at n) (of_verdict v)) J.case
 
+-- where a write fails, there is a difference to tell
+pub judged-told : (pass : Tree → List Rec) (f : List ℕ) (at n : ℕ) (s : List ℕ) {v : Verdict} → Judged pass s v →
+    0 < difference (verdict_at f at n) (of_verdict v) → 0 < pass_difference pass f at n s
+judged-told pass f at n s J h = let e = judged-differs pass f at n s refl J in omega arith
+
 pub replied-differs : (asked : Tree → List ℕ → Bool) (f : List ℕ) (at n : ℕ) (s w : List ℕ) {v : Reply} {r : ℕ} →
     r ≡ difference (reply_at f at n) (of_reply v) → Replied asked s w v → r ≡ question_difference asked f at n s w
 unfolding question_difference
 replied-differs asked f at n s w e J = e ∙ ap (λ (v : Reply). difference (reply_at f at n) (of_reply v)) J.case
+
+pub replied-told : (asked : Tree → List ℕ → Bool) (f : List ℕ) (at n : ℕ) (s w : List ℕ) {v : Reply} → Replied asked s w v →
+    0 < difference (reply_at f at n) (of_reply v) → 0 < question_difference asked f at n s w
+replied-told asked f at n s w J h = let e = replied-differs asked f at n s w refl J in omega arith
 
 -- The lists
 
@@ -74,6 +98,12 @@ unfolding lists_differences
 lists-are f at k n s {whole} {parts} l p a b c d e =
     let w : whole ≡ part_of at k = part-is l in
     cc
+
+-- they are the five that are told one after the other
+pub lists-told : (f : List ℕ) (at k n : ℕ) (s : List ℕ) {whole : Part} {parts : Parts} → Lies whole at k → parts ≡ parts_of f at k →
+    list_difference asked.Whole f whole n s + short_difference k s + list_difference asked.Resolve f parts.resolve n s
+    + list_difference asked.Access f parts.access n s + list_difference asked.Linear f parts.linear n s ≡ lists_differences f at k n s
+lists-told f at k n s l p = lists-are f at k n s l p refl refl refl refl refl
 
 -- The steps
 
@@ -126,6 +156,40 @@ module _ (one : ℕ → Step) where
   pub stepped-all : (k from i at d : ℕ) {r : Step} → Stepped k from i at d → k ≤ i → r ≡ step_to at d → r ≡ steps one k from 0
   stepped-all k from i at d S l z = z ∙ sym (S ∙ steps-over (k - i) at d (omega arith))
 
+-- .. and what is told by them
+module _ (tells : ℕ → ℕ) (one : ℕ → Step) where
+  told-first : (m at : ℕ) → 0 < m → tells at ≤ told tells one m at
+  unfolding told
+  told-first zero at l = absurd (omega arith)
+  told-first (suc m) at l = omega arith
+
+  told-on : (m at : ℕ) {st : Step} → 0 < m → st ≡ one at → st.whole ≡ true → told tells one (m - 1) st.at ≤ told tells one m at
+  unfolding told
+  told-on zero at l e w = absurd (omega arith)
+  told-on (suc m) at {st} l e w =
+      let g : (one at).whole ≡ true = ap (λ (x : Step). x.whole) (sym e) ∙ w in
+      let p : suc m - 1 ≡ m = omega arith in
+      let q : told tells one (suc m - 1) st.at ≡ told tells one m (one at).at = cc in
+      simp g (omega arith)
+
+  -- what the steps tell that are ahead is told by all of them
+  abbrev pub Told : ℕ → ℕ → ℕ → ℕ → Type 0
+  Told k from i at = told tells one (k - i) at ≤ told tells one k from
+
+  pub told-none : (k from : ℕ) → Told k from 0 from
+  told-none k from =
+      let p : k - 0 ≡ k = omega arith in let e : told tells one (k - 0) from ≡ told tells one k from = cc in omega arith
+
+  pub told-more : (k from i at : ℕ) {st : Step} → Told k from i at → i < k → st ≡ one at → not st.whole ≡ false → Told k from (i + 1) st.at
+  told-more k from i at {st} T l e w =
+      let p : k - (i + 1) ≡ k - i - 1 = omega arith in
+      let q : told tells one (k - (i + 1)) st.at ≡ told tells one (k - i - 1) st.at = cc in
+      let m = told-on (k - i) at (omega arith) e (so st.whole w) in
+      omega arith
+
+  pub told-here : (k from i at : ℕ) → Told k from i at → i < k → 0 < tells at → 0 < told tells one k from
+  told-here k from i at T l h = let m = told-first (k - i) at (omega arith) in omega arith
+
 -- One name
 
 module _ (f : List ℕ) (n : ℕ) (s : List ℕ) (at : ℕ) where
@@ -150,6 +214,10 @@ module _ (f : List ℕ) (n : ℕ) (s : List ℕ) (at : ℕ) where
       let w = question_differences f (at + 1 + size) n s (take (at + 1 + size - (at + 1)) (drop (at + 1) f)) in
       let b : name_by f (at + 1) size n s ≡ step_to (at + 1 + size + 3) w = simp (le-ltb (length f - (at + 1)) (size + 3) l) in
       z ∙ ap (step_to (at + 1 + size + 3)) q ∙ sym b ∙ name_stepped size h e
+
+  pub name-told : (size : ℕ) → 1 ≤ length f - at → size ≡ get_or f at 0 → size + 3 ≤ length f - (at + 1) →
+      0 < question_differences f (at + 1 + size) n s (take (at + 1 + size - (at + 1)) (drop (at + 1) f)) → 0 < name_told f n s at
+  name-told size h e l t = let q = ap (λ (x : Step). x.differ) (name-whole size _ h e l refl refl) in omega arith
 
 -- The answers on one image
 
@@ -177,6 +245,17 @@ module _ (f : List ℕ) (at : ℕ) (s : List ℕ) where
       simp (le-ltb (length f - (at + 41)) (record_bytes * k + 1) l) in
       ap (λ (h : ℕ). after h st) t ∙ ap (after (answer_differences f at k n s)) x ∙ sym w ∙ answers_stepped k n e g
 
+  pub answers-told : (k n m : ℕ) → k ≡ full_word f (at + 37) → n ≡ get_or f at 0 → record_bytes * k + 1 ≤ length f - (at + 41) →
+      m ≡ get_or f (at + 41 + record_bytes * k) 0 →
+      answer_differences f at k n s + names_told f n s m (at + 41 + record_bytes * k + 1) ≡ answers_told f at s
+  unfolding answers_told
+  answers-told k n m e g l y =
+      let w : answers_told_by f at k n s
+      ≡ answer_differences f at k n s + names_told f n s (get_or f (at + 41 + record_bytes * k) 0) (at + 41 + record_bytes * k + 1)
+      = simp (le-ltb (length f - (at + 41)) (record_bytes * k + 1) l) in
+      ap (λ (m : ℕ). answer_differences f at k n s + names_told f n s m (at + 41 + record_bytes * k + 1)) y
+      ∙ sym w ∙ ap (λ (k : ℕ). answers_told_by f at k n s) e ∙ ap (λ (n : ℕ). answers_told_by f at (full_word f (at + 37)) n s) g
+
 -- One image
 
 module _ (f : List ℕ) (at : ℕ) where
@@ -198,3 +277,11 @@ module _ (f : List ℕ) (at : ℕ) where
   image-whole size h e l z =
       let w = answers_step f (at + 4 + size) (take (at + 4 + size - (at + 4)) (drop (at + 4) f)) in
       let b : image_by f (at + 4) size ≡ w = simp (le-ltb (length f - (at + 4)) (size + 41) l) in z ∙ sym b ∙ image-by size h e
+
+  pub image-told : (size : ℕ) → 4 ≤ length f - at → size ≡ full_word f at → size + 41 ≤ length f - (at + 4) →
+      answers_told f (at + 4 + size) (take (at + 4 + size - (at + 4)) (drop (at + 4) f)) ≡ image_told f at
+  unfolding image_told
+  image-told size h e l =
+      let w = answers_told f (at + 4 + size) (take (at + 4 + size - (at + 4)) (drop (at + 4) f)) in
+      let b : image_told_by f (at + 4) size ≡ w = simp (le-ltb (length f - (at + 4)) (size + 41) l) in
+      sym b ∙ simp (le-ltb (length f - at) 4 h) (ap (image_told_by f (at + 4)) e)

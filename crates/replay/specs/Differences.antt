@@ -158,3 +158,35 @@ image_step f at = pick (ltb (length f - at) 4) ends_early (image_by f (at + 4) (
 
 abbrev pub images_step : List ℕ → ℕ → Step
 images_step f k = steps (image_step f) k 4 0
+
+-- How many differences k steps tell from `at` on, where `tells` says it of each: what was told stays told where the answers end too early
+unfoldable pub told : (ℕ → ℕ) → (ℕ → Step) → ℕ → ℕ → ℕ
+told tells one zero at = 0
+told tells one (suc k) at = tells at + pick (one at).whole (told tells one k (one at).at) 0
+
+-- .. of a name, and of k names
+abbrev pub name_told : List ℕ → ℕ → List ℕ → ℕ → ℕ
+name_told f n s at = (name_step f n s at).differ
+
+abbrev pub names_told : List ℕ → ℕ → List ℕ → ℕ → ℕ → ℕ
+names_told f n s k at = told (name_told f n s) (name_step f n s) k at
+
+-- .. of the answers on an image
+abbrev pub answers_told_by : List ℕ → ℕ → ℕ → ℕ → List ℕ → ℕ
+answers_told_by f at k n s =
+    pick (ltb (length f - (at + 41)) (record_bytes * k + 1)) 0
+    (answer_differences f at k n s + names_told f n s (get_or f (at + 41 + record_bytes * k) 0) (at + 41 + record_bytes * k + 1))
+
+unfoldable pub answers_told : List ℕ → ℕ → List ℕ → ℕ
+answers_told f at s = answers_told_by f at (full_word f (at + 37)) (get_or f at 0) s
+
+-- .. of an image, and of k images
+abbrev pub image_told_by : List ℕ → ℕ → ℕ → ℕ
+image_told_by f from size =
+    pick (ltb (length f - from) (size + 41)) 0 (answers_told f (from + size) (take (from + size - from) (drop from f)))
+
+unfoldable pub image_told : List ℕ → ℕ → ℕ
+image_told f at = pick (ltb (length f - at) 4) 0 (image_told_by f (at + 4) (full_word f at))
+
+abbrev pub images_told : List ℕ → ℕ → ℕ
+images_told f k = told (image_told f) (image_step f) k 4

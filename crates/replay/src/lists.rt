@@ -1,11 +1,12 @@
 // The recorded list of an image against the face's: whole, in a buffer that is one word short, and each pass's part.
-ghost use Rattle.std.specs.Prelude.{◌≡◌, ◌+◌, ◌*◌, ◌≤◌, length};
+ghost use Rattle.std.specs.Prelude.{◌≡◌, ◌+◌, ◌*◌, ◌<◌, ◌≤◌, length, IfOk, OnErr};
 ghost use Rattle.recording.specs.Told.{record_words, record_bytes, Within, list_differences};
 ghost use Rattle.replay.specs.Differences.{list_numbers, words_in, zeros, list_difference, short_difference, lists_differences};
 
 use crate::ask;
 use crate::ask::Asked;
 use recording::{Case, Numbers, Part, RECORD_WORDS};
+use std::io;
 
 // Words for as many records as a file of main's ROOM bytes can hold.
 const WORDS: usize = 225000;
@@ -28,6 +29,7 @@ fn answer_in(asked: Asked, image: &[u8], words: &mut [u16], size: usize) -> Numb
 
 // A list that is asked for with room for the recorded records and no more.
 fn list_in(
+    rt: &impl Print,
     case: Case,
     name: &[u8],
     asked: Asked,
@@ -35,76 +37,91 @@ fn list_in(
     part: Part,
     image: &[u8],
     words: &mut [u16],
-) -> usize
+) -> io::Result<usize>
     requires { Within file.now part × (record_words * part.count ≤ length words.old) }
-    ensures value { (result ≡ list_differences case.refusal file.now part (list_numbers asked image.now (record_words * part.count)) words.new) × (result ≤ part.count + 1) }
+    ensures value { IfOk result (λ n. (n ≡ list_differences case.refusal file.now part (list_numbers asked image.now (record_words * part.count)) words.new) × (n ≤ part.count + 1)) }
+    ensures err { OnErr result (0 < list_differences case.refusal file.now part (list_numbers asked image.now (record_words * part.count)) words.new) }
     ensures words_value { words.new ≡ words_in asked image.now (record_words * part.count) words.old }
 {
     let answer = answer_in(asked, image, words, RECORD_WORDS * part.count);
-    recording::records_differ(case, name, file, part, answer, words)
+    recording::records_differ(rt, case, name, file, part, answer, words)
 }
 
 fn list_differs(
+    rt: &impl Print,
     case: Case,
     name: &[u8],
     asked: Asked,
     file: &[u8],
     part: Part,
     image: &[u8],
-) -> usize
+) -> io::Result<usize>
     requires { Within file.now part × (length file.now ≤ 450000) }
-    ensures { (result ≡ list_difference asked file.now part case.refusal image.now) × (result ≤ 56251) }
+    ensures ok { IfOk result (λ n. (n ≡ list_difference asked file.now part case.refusal image.now) × (n ≤ 56251)) }
+    ensures err { OnErr result (0 < list_difference asked file.now part case.refusal image.now) }
 {
     let mut words = blank();
-    list_in(case, name, asked, file, part, image, &mut words)
+    list_in(rt, case, name, asked, file, part, image, &mut words)
 }
 
 // Where there is a record, a buffer that is one word short is refused by 9.
-fn short_differs(case: Case, count: usize, image: &[u8]) -> usize
+fn short_differs(rt: &impl Print, case: Case, count: usize, image: &[u8]) -> io::Result<usize>
     requires { record_bytes * count ≤ 450000 }
-    ensures { (result ≡ short_difference count image.now) × (result ≤ 1) }
+    ensures ok { IfOk result (λ n. (n ≡ short_difference count image.now) × (n ≤ 1)) }
+    ensures err { OnErr result (0 < short_difference count image.now) }
 {
     if count == 0 {
-        return 0;
+        return Ok(0);
     }
     let mut words = blank();
     let answer = answer_in(Asked::Whole, image, &mut words, RECORD_WORDS * count - 1);
     let recorded = Numbers(9, 0, 0, 0, 0, 0);
-    recording::differs(case, b"list, one word short", recorded, answer)
+    recording::differs(rt, case, b"list, one word short", recorded, answer)
 }
 
 // How many of the lists differ from the recorded one.
-pub fn differ(case: Case, file: &[u8], at: usize, count: usize, image: &[u8]) -> usize
+pub fn differ(
+    rt: &impl Print,
+    case: Case,
+    file: &[u8],
+    at: usize,
+    count: usize,
+    image: &[u8],
+) -> io::Result<usize>
     requires { (at + record_bytes * count ≤ length file.now) × (length file.now ≤ 450000) }
-    ensures { (result ≡ lists_differences file.now at count case.refusal image.now) × (result ≤ 400000) }
+    ensures ok { IfOk result (λ n. (n ≡ lists_differences file.now at count case.refusal image.now) × (n ≤ 400000)) }
+    ensures err { OnErr result (0 < lists_differences file.now at count case.refusal image.now) }
 {
     let whole = recording::part_of(at, count);
     let parts = recording::parts_of(file, at, count);
-    let a = list_differs(case, b"list", Asked::Whole, file, whole, image);
-    let b = short_differs(case, count, image);
+    let a = list_differs(rt, case, b"list", Asked::Whole, file, whole, image)?;
+    let b = short_differs(rt, case, count, image)?;
     let c = list_differs(
+        rt,
         case,
         b"resolve_list",
         Asked::Resolve,
         file,
         parts.resolve,
         image,
-    );
+    )?;
     let d = list_differs(
+        rt,
         case,
         b"access_list",
         Asked::Access,
         file,
         parts.access,
         image,
-    );
+    )?;
     let e = list_differs(
+        rt,
         case,
         b"linear_list",
         Asked::Linear,
         file,
         parts.linear,
         image,
-    );
-    a + b + c + d + e
+    )?;
+    Ok(a + b + c + d + e)
 }

@@ -1,16 +1,23 @@
 // Replays recorded/answers.bin through the public face and prints what differs. Its layout is in recorded/README.md.
+// A read or a write that fails ends it: that is told on standard error, and the exit status is 1.
 #![tactic(auto)]
 
 mod ask;
 mod lists;
 
-ghost use Rattle.std.specs.Prelude.{◌≡◌, ◌+◌, ◌<◌, ◌≤◌, length};
+ghost use Rattle.std.specs.Prelude.{◌≡◌, ◌+◌, ◌<◌, ◌≤◌, length, take, IfOk, OnErr};
+ghost use Rattle.std.specs.Io.{ReadsAtMost};
+ghost use Rattle.std.specs.Io.KnownBytes.{Consumes, IsAtEnd};
 ghost use Rattle.rules.specs.Linear.{linear};
 ghost use Rattle.recording.specs.Told.{difference, verdict_at, reply_at};
 ghost use Rattle.replay.specs.Differences.{of_verdict, of_reply, pass_difference, pass_differences, verdict_differences, question_differences};
 ghost use Rattle.replay.specs.Differences.{step_to, ends_early, name_step, names_step, answers_step, image_step, images_step};
+ghost use Rattle.replay.specs.Differences.{name_told, names_told, answers_told, image_told, images_told};
 
 use recording::{Case, Numbers, RECORD_BYTES};
+use std::io;
+use std::io::Read;
+use std::process::ExitCode;
 use typeck::{Reply, Verdict};
 
 // More than the recorded answers have: input that fills it is too long.
@@ -52,211 +59,301 @@ fn step_to(at: usize, differ: usize) -> Step
 }
 
 // A verdict of the face against the recorded one.
-fn pass_differs(case: Case, asked: &[u8], file: &[u8], at: usize, verdict: Verdict) -> usize
+fn pass_differs(
+    rt: &impl Print,
+    case: Case,
+    asked: &[u8],
+    file: &[u8],
+    at: usize,
+    verdict: Verdict,
+) -> io::Result<usize>
     requires { at + 12 ≤ length file.now }
-    ensures { (result ≡ difference (verdict_at file.now at case.refusal) (of_verdict verdict)) × (result ≤ 1) }
+    ensures ok { IfOk result (λ n. (n ≡ difference (verdict_at file.now at case.refusal) (of_verdict verdict)) × (n ≤ 1)) }
+    ensures err { OnErr result (0 < difference (verdict_at file.now at case.refusal) (of_verdict verdict)) }
 {
-    recording::verdict_differs(case, asked, file, at, ask::of_verdict(verdict))
+    recording::verdict_differs(rt, case, asked, file, at, ask::of_verdict(verdict))
 }
 
 // The refusal, and each pass asked by itself.
-fn passes_differ(case: Case, file: &[u8], at: usize, image: &[u8]) -> usize
+fn passes_differ(
+    rt: &impl Print,
+    case: Case,
+    file: &[u8],
+    at: usize,
+    image: &[u8],
+) -> io::Result<usize>
     requires { at + 36 ≤ length file.now }
-    ensures { (result ≡ pass_differences file.now at case.refusal image.now) × (result ≤ 4) }
+    ensures ok { IfOk result (λ n. (n ≡ pass_differences file.now at case.refusal image.now) × (n ≤ 4)) }
+    ensures err { OnErr result (0 < pass_differences file.now at case.refusal image.now) }
 {
     let recorded = Numbers(case.refusal, 0, 0, 0, 0, 0);
     let refused = Numbers(typeck::refused(image), 0, 0, 0, 0, 0);
-    let a = recording::differs(case, b"refused", recorded, refused);
-    let b = pass_differs(case, b"resolve", file, at, typeck::resolve(image));
-    let c = pass_differs(case, b"access", file, at + 12, typeck::access(image));
-    let d = pass_differs(case, b"linear", file, at + 24, typeck::linear(image));
-    a + b + c + d
+    let a = recording::differs(rt, case, b"refused", recorded, refused)?;
+    let b = pass_differs(rt, case, b"resolve", file, at, typeck::resolve(image))?;
+    let c = pass_differs(rt, case, b"access", file, at + 12, typeck::access(image))?;
+    let d = pass_differs(rt, case, b"linear", file, at + 24, typeck::linear(image))?;
+    Ok(a + b + c + d)
 }
 
 // The passes asked at once.
-fn verdicts_differ(case: Case, file: &[u8], at: usize, image: &[u8]) -> usize
+fn verdicts_differ(
+    rt: &impl Print,
+    case: Case,
+    file: &[u8],
+    at: usize,
+    image: &[u8],
+) -> io::Result<usize>
     requires { at + 36 ≤ length file.now }
-    ensures { (result ≡ verdict_differences file.now at case.refusal image.now) × (result ≤ 3) }
+    ensures ok { IfOk result (λ n. (n ≡ verdict_differences file.now at case.refusal image.now) × (n ≤ 3)) }
+    ensures err { OnErr result (0 < verdict_differences file.now at case.refusal image.now) }
 {
     let answers = typeck::verdicts(image);
     let resolve = answers.resolve;
     let access = answers.access;
     let linear = answers.linear;
-    let a = pass_differs(case, b"verdicts, resolve", file, at, resolve);
-    let b = pass_differs(case, b"verdicts, access", file, at + 12, access);
-    let c = pass_differs(case, b"verdicts, linear", file, at + 24, linear);
-    a + b + c
+    let a = pass_differs(rt, case, b"verdicts, resolve", file, at, resolve)?;
+    let b = pass_differs(rt, case, b"verdicts, access", file, at + 12, access)?;
+    let c = pass_differs(rt, case, b"verdicts, linear", file, at + 24, linear)?;
+    Ok(a + b + c)
 }
 
 // The linear pass in a table of rows that it is lent.
-fn lent_differs(case: Case, file: &[u8], at: usize, image: &[u8]) -> usize
+fn lent_differs(
+    rt: &impl Print,
+    case: Case,
+    file: &[u8],
+    at: usize,
+    image: &[u8],
+) -> io::Result<usize>
     requires { at + 36 ≤ length file.now }
-    ensures { (result ≡ pass_difference linear file.now (at + 24) case.refusal image.now) × (result ≤ 1) }
+    ensures ok { IfOk result (λ n. (n ≡ pass_difference linear file.now (at + 24) case.refusal image.now) × (n ≤ 1)) }
+    ensures err { OnErr result (0 < pass_difference linear file.now (at + 24) case.refusal image.now) }
 {
     let verdict = linear_lent::linear_here(image);
-    pass_differs(case, b"linear, rows lent", file, at + 24, verdict)
+    pass_differs(rt, case, b"linear, rows lent", file, at + 24, verdict)
 }
 
 // An answer of the face about a name against the recorded one.
-fn reply_differs(case: Case, asked: &[u8], file: &[u8], at: usize, reply: Reply) -> usize
+fn reply_differs(
+    rt: &impl Print,
+    case: Case,
+    asked: &[u8],
+    file: &[u8],
+    at: usize,
+    reply: Reply,
+) -> io::Result<usize>
     requires { at < length file.now }
-    ensures { (result ≡ difference (reply_at file.now at case.refusal) (of_reply reply)) × (result ≤ 1) }
+    ensures ok { IfOk result (λ n. (n ≡ difference (reply_at file.now at case.refusal) (of_reply reply)) × (n ≤ 1)) }
+    ensures err { OnErr result (0 < difference (reply_at file.now at case.refusal) (of_reply reply)) }
 {
-    recording::answer_differs(case, asked, file, at, ask::of_reply(reply))
+    recording::answer_differs(rt, case, asked, file, at, ask::of_reply(reply))
 }
 
 // The three questions about one name.
-fn questions_differ(case: Case, file: &[u8], at: usize, image: &[u8], name: &[u8]) -> usize
+fn questions_differ(
+    rt: &impl Print,
+    case: Case,
+    file: &[u8],
+    at: usize,
+    image: &[u8],
+    name: &[u8],
+) -> io::Result<usize>
     requires { at + 3 ≤ length file.now }
-    ensures { (result ≡ question_differences file.now at case.refusal image.now name.now) × (result ≤ 3) }
+    ensures ok { IfOk result (λ n. (n ≡ question_differences file.now at case.refusal image.now name.now) × (n ≤ 3)) }
+    ensures err { OnErr result (0 < question_differences file.now at case.refusal image.now name.now) }
 {
     let state = typeck::is_state(image, name);
     let declared = typeck::is_declared_asset(image, name);
     let known = typeck::is_known_asset(image, name);
-    let a = reply_differs(case, b"is_state", file, at, state);
-    let b = reply_differs(case, b"is_declared_asset", file, at + 1, declared);
-    let c = reply_differs(case, b"is_known_asset", file, at + 2, known);
-    a + b + c
+    let a = reply_differs(rt, case, b"is_state", file, at, state)?;
+    let b = reply_differs(rt, case, b"is_declared_asset", file, at + 1, declared)?;
+    let c = reply_differs(rt, case, b"is_known_asset", file, at + 2, known)?;
+    Ok(a + b + c)
 }
 
 // One name that is asked about.
-fn name_step(case: Case, file: &[u8], at: usize, image: &[u8]) -> Step
+fn name_step(rt: &impl Print, case: Case, file: &[u8], at: usize, image: &[u8]) -> io::Result<Step>
     requires { at ≤ length file.now }
-    ensures value { result ≡ name_step file.now case.refusal image.now at }
-    ensures at_in_bounds { (result.at ≤ length file.now) × (result.differ ≤ 3) }
+    ensures value { IfOk result (λ step. step ≡ name_step file.now case.refusal image.now at) }
+    ensures at_in_bounds { IfOk result (λ step. (step.at ≤ length file.now) × (step.differ ≤ 3)) }
+    ensures err { OnErr result (0 < name_told file.now case.refusal image.now at) }
 {
     let n = file.len();
     if n - at < 1 {
-        return early();
+        return Ok(early());
     }
     let size = recording::u8_at(file, at);
     let from = at + 1;
     if n - from < size + 3 {
-        return early();
+        return Ok(early());
     }
     let to = from + size;
-    let differ = questions_differ(case, file, to, image, &file[from..to]);
-    step_to(to + 3, differ)
+    let differ = questions_differ(rt, case, file, to, image, &file[from..to])?;
+    Ok(step_to(to + 3, differ))
 }
 
 // The names that are asked about.
-fn names_step(case: Case, file: &[u8], at: usize, count: usize, image: &[u8]) -> Step
+fn names_step(
+    rt: &impl Print,
+    case: Case,
+    file: &[u8],
+    at: usize,
+    count: usize,
+    image: &[u8],
+) -> io::Result<Step>
     requires { (at ≤ length file.now) × (count < 256) }
-    ensures value { result ≡ names_step file.now case.refusal image.now count at }
-    ensures at_in_bounds { (result.at ≤ length file.now) × (result.differ ≤ 768) }
+    ensures value { IfOk result (λ step. step ≡ names_step file.now case.refusal image.now count at) }
+    ensures at_in_bounds { IfOk result (λ step. (step.at ≤ length file.now) × (step.differ ≤ 768)) }
+    ensures err { OnErr result (0 < names_told file.now case.refusal image.now count at) }
 {
     let mut next = at;
     let mut differ = 0;
     let mut i = 0;
     while i < count {
-        let step = name_step(case, file, next, image);
+        let step = name_step(rt, case, file, next, image)?;
         next = step.at;
         differ += step.differ;
         i += 1;
         if !step.whole {
-            return early();
+            return Ok(early());
         }
     }
-    step_to(next, differ)
+    Ok(step_to(next, differ))
 }
 
 // The answers on one image, from its refusal on.
-fn answers_step(file: &[u8], at: usize, number: usize, image: &[u8]) -> Step
+fn answers_step(
+    rt: &impl Print,
+    file: &[u8],
+    at: usize,
+    number: usize,
+    image: &[u8],
+) -> io::Result<Step>
     requires { (at + 41 ≤ length file.now) × (length file.now ≤ 450000) }
-    ensures value { result ≡ answers_step file.now at image.now }
-    ensures at_in_bounds { (result.at ≤ length file.now) × (result.differ ≤ 500000) }
+    ensures value { IfOk result (λ step. step ≡ answers_step file.now at image.now) }
+    ensures at_in_bounds { IfOk result (λ step. (step.at ≤ length file.now) × (step.differ ≤ 500000)) }
+    ensures err { OnErr result (0 < answers_told file.now at image.now) }
 {
     let refusal = recording::u8_at(file, at);
     let case = Case { number, refusal };
     let count = recording::u32_at(file, at + 37);
     let list = at + 41;
     if file.len() - list < RECORD_BYTES * count + 1 {
-        return early();
+        return Ok(early());
     }
     let names = list + RECORD_BYTES * count;
-    let a = passes_differ(case, file, at + 1, image);
-    let b = verdicts_differ(case, file, at + 1, image);
-    let c = lists::differ(case, file, list, count, image);
-    let d = lent_differs(case, file, at + 1, image);
-    let step = names_step(case, file, names + 1, recording::u8_at(file, names), image);
+    let a = passes_differ(rt, case, file, at + 1, image)?;
+    let b = verdicts_differ(rt, case, file, at + 1, image)?;
+    let c = lists::differ(rt, case, file, list, count, image)?;
+    let d = lent_differs(rt, case, file, at + 1, image)?;
+    let step = names_step(
+        rt,
+        case,
+        file,
+        names + 1,
+        recording::u8_at(file, names),
+        image,
+    )?;
     let differ = a + b + c + d;
-    Step {
+    Ok(Step {
         at: step.at,
         differ: differ + step.differ,
         whole: step.whole,
-    }
+    })
 }
 
 // One image and the answers on it.
-fn image_step(file: &[u8], at: usize, number: usize) -> Step
+fn image_step(rt: &impl Print, file: &[u8], at: usize, number: usize) -> io::Result<Step>
     requires { (at ≤ length file.now) × (length file.now ≤ 450000) }
-    ensures value { result ≡ image_step file.now at }
-    ensures at_in_bounds { (result.at ≤ length file.now) × (result.differ ≤ 500000) }
+    ensures value { IfOk result (λ step. step ≡ image_step file.now at) }
+    ensures at_in_bounds { IfOk result (λ step. (step.at ≤ length file.now) × (step.differ ≤ 500000)) }
+    ensures err { OnErr result (0 < image_told file.now at) }
 {
     let n = file.len();
     if n - at < 4 {
-        return early();
+        return Ok(early());
     }
     let size = recording::u32_at(file, at);
     let from = at + 4;
     if n - from < size + 41 {
-        return early();
+        return Ok(early());
     }
     let to = from + size;
-    answers_step(file, to, number, &file[from..to])
+    answers_step(rt, file, to, number, &file[from..to])
 }
 
 // All images, from the first on.
-fn images_step(file: &[u8], count: usize) -> Step
+fn images_step(rt: &impl Print, file: &[u8], count: usize) -> io::Result<Step>
     requires { (4 ≤ length file.now) × (length file.now ≤ 450000) × (count ≤ 4294967296) }
-    ensures value { result ≡ images_step file.now count }
-    ensures at_in_bounds { result.at ≤ length file.now }
+    ensures value { IfOk result (λ step. step ≡ images_step file.now count) }
+    ensures at_in_bounds { IfOk result (λ step. step.at ≤ length file.now) }
+    ensures err { OnErr result (0 < images_told file.now count) }
 {
     let mut next = 4;
     let mut differ = 0;
     let mut i = 0;
     while i < count {
-        let step = image_step(file, next, i);
+        let step = image_step(rt, file, next, i)?;
         next = step.at;
         differ += step.differ;
         i += 1;
         if !step.whole {
-            return early();
+            return Ok(early());
         }
     }
-    step_to(next, differ)
+    Ok(step_to(next, differ))
 }
 
-fn replay(file: &[u8]) {
+fn replay(rt: &impl Print, file: &[u8]) -> io::Result<()> {
     let n = file.len();
     if ROOM <= n {
-        recording::text(b"recorded answers are too long\n");
-        return;
+        return recording::text(rt, b"recorded answers are too long\n");
     }
     if n < 4 {
-        recording::text(b"recorded answers end early\n");
-        return;
+        return recording::text(rt, b"recorded answers end early\n");
     }
     let count = recording::u32_at(file, 0);
-    let step = images_step(file, count);
+    let step = images_step(rt, file, count)?;
     if !step.whole {
-        recording::text(b"recorded answers end early\n");
-        return;
+        return recording::text(rt, b"recorded answers end early\n");
     }
     if step.at < n {
-        recording::text(b"recorded answers go on after the last image\n");
+        recording::text(rt, b"recorded answers go on after the last image\n")?;
     }
-    recording::summary(count, step.differ);
+    recording::summary(rt, count, step.differ)
 }
 
-fn main() {
-    let mut room = room_for_all();
-    let n = io::read_full(0, &mut room);
-    // At the end of the input one more read gives nothing; where a read failed, it fails again.
-    let mut more = [0u8; 1];
-    if libc::read(0, &mut more) < 0 {
-        os::fail(b"replay: standard input");
-        return;
+// Reads until the room is full or the input ends, and says how many bytes that gave.
+fn read_full<R: Read>(input: &mut R, room: &mut [u8]) -> io::Result<usize>
+    ensures bound { ReadsAtMost result room.new }
+    ensures bytes { IfOk result (λ n. Consumes (R.remaining input.old) (R.remaining input.new) (take n room.new)) }
+    ensures end { IfOk result (λ n. n < length room.new → IsAtEnd (R.remaining input.new)) }
+{
+    let mut n = 0;
+    while n < room.len() {
+        let more = input.read(&mut room[n..])?;
+        if more == 0 {
+            break;
+        }
+        n += more;
     }
-    replay(&room[..n]);
+    Ok(n)
+}
+
+// Why the answers were not compared, or not all that differs was told.
+fn failed(rt: &impl Eprint, stream: &str, error: io::Error) -> ExitCode {
+    // Where standard error does not take this either, the exit status still says so.
+    let _ = eprintln!(rt; "replay: {stream}: {error}");
+    ExitCode::FAILURE
+}
+
+fn main(rt: HostRuntime) -> ExitCode {
+    let mut room = room_for_all();
+    match read_full(&mut rt.stdin(), &mut room) {
+        Err(error) => failed(&rt, "standard input", error),
+        Ok(n) => match replay(&rt, &room[..n]) {
+            Err(error) => failed(&rt, "standard output", error),
+            Ok(()) => ExitCode::SUCCESS,
+        },
+    }
 }

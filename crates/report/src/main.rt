@@ -1,10 +1,15 @@
 // The report program: reads an image from standard input and prints the report of document 01.
-// A program sets no exit status, so a read or a write that fails is told on standard error.
+// A read or a write that fails ends it: that is told on standard error, and the exit status is 1.
 #![tactic(auto)]
 
-ghost use Rattle.std.specs.Prelude.{◌≡◌, length};
+ghost use Rattle.std.specs.Prelude.{◌≡◌, ◌<◌, length, take, IfOk};
+ghost use Rattle.std.specs.Io.{ReadsAtMost};
+ghost use Rattle.std.specs.Io.KnownBytes.{Consumes, IsAtEnd};
 
 use image::Image;
+use std::io;
+use std::io::Read;
+use std::process::ExitCode;
 
 // No report is longer.
 const TEXT: usize = 450000;
@@ -26,23 +31,44 @@ fn blank_room() -> [u8; ROOM]
     [0; ROOM]
 }
 
-// Prints the report of an image: writes go on until all of it is taken, or one takes nothing.
-fn report(image: &[u8]) {
-    let mut text = blank_text();
-    let n = render::render(image, &mut text);
-    if !io::write_all(1, &text[..n]) {
-        os::fail(b"report: standard output");
+// Reads until the room is full or the input ends, and says how many bytes that gave.
+fn read_full<R: Read>(input: &mut R, room: &mut [u8]) -> io::Result<usize>
+    ensures bound { ReadsAtMost result room.new }
+    ensures bytes { IfOk result (λ n. Consumes (R.remaining input.old) (R.remaining input.new) (take n room.new)) }
+    ensures end { IfOk result (λ n. n < length room.new → IsAtEnd (R.remaining input.new)) }
+{
+    let mut n = 0;
+    while n < room.len() {
+        let more = input.read(&mut room[n..])?;
+        if more == 0 {
+            break;
+        }
+        n += more;
     }
+    Ok(n)
 }
 
-fn main() {
+// Prints the report of an image: all of it, or the answer is why not.
+fn report(rt: &impl Print, image: &[u8]) -> io::Result<()> {
+    let mut text = blank_text();
+    let n = render::render(image, &mut text);
+    rt.write_all(&text[..n])
+}
+
+// Why there is no report, or not all of it.
+fn failed(rt: &impl Eprint, stream: &str, error: io::Error) -> ExitCode {
+    // Where standard error does not take this either, the exit status still says so.
+    let _ = eprintln!(rt; "report: {stream}: {error}");
+    ExitCode::FAILURE
+}
+
+fn main(rt: HostRuntime) -> ExitCode {
     let mut room = blank_room();
-    let n = io::read_full(0, &mut room);
-    // At the end of the input one more read gives nothing; where a read failed, it fails again.
-    let mut more = [0u8; 1];
-    if libc::read(0, &mut more) < 0 {
-        os::fail(b"report: standard input");
-        return;
+    match read_full(&mut rt.stdin(), &mut room) {
+        Err(error) => failed(&rt, "standard input", error),
+        Ok(n) => match report(&rt, &room[..n]) {
+            Err(error) => failed(&rt, "standard output", error),
+            Ok(()) => ExitCode::SUCCESS,
+        },
     }
-    report(&room[..n]);
 }

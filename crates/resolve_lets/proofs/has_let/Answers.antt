@@ -2,7 +2,6 @@
 use native.Mathlib.Omega.{arith}
 use Prim.Native.Nat.{◌<◌, ◌≤◌}
 use mathlib.Core.Path.{refl, ◌∙◌}
-use mathlib.Core.Bool.{true≢false}
 use Rattle.nodes.specs.Shown.{In}
 use Rattle.nodes.proofs.Shapes.{within}
 use Rattle.nodes.proofs.Spans.{child-on}
@@ -48,13 +47,10 @@ loop-children-preserved c =
     let m = moved in
     let i1 = i.1 in
     let h = before_last i.0 c.loop-children-test.true in
-    (still-over i.0 c.step.ensures, omega arith, m.1, λ W. let e = c.end-end.ensures W in no-let-on W c.requires.here c.requires.positive i.1 (omega arith) (i.3 W) (λ k. c.if-kind-eq-LET.false (c.kind.ensures W ∙ k)) (on-to i.0 c.step.ensures W))
+    (still-over i.0 c.step.ensures, omega arith, m.1, λ W. let e = c.end-end.ensures W in no-let-on W c.requires.here c.requires.positive i.1 (omega arith) (i.3 W) (λ k. let e = c.kind.ensures W ∙ k in omega arith) (on-to i.0 c.step.ensures W))
 
 pub returns : goal.returns
 returns c = λ z W j l h. let e = c.end-end.ensures W in let i = c.loop-children.invariant in let t = past-last i.0 c.loop-children-test.false in i.3 W j l (omega arith)
 
 pub end-end-requires : goal.end-end-requires
 end-end-requires c = c.requires.here
-
-pub returns-then-kind-eq-LET : goal.returns-then-kind-eq-LET
-returns-then-kind-eq-LET c = λ z. absurd (true≢false z)
