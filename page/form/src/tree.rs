@@ -28,6 +28,8 @@ pub struct Tree<'a> {
     pub nodes: Vec<Node<'a>>,
 }
 
+// What is asked of every node is inlined: the crates above walk over contracts of 2,048 nodes, and ask it again for
+// each fault.
 impl<'a> Tree<'a> {
     /// The tree of an image, where its header, its nodes' ends and its names hold together. Every
     /// admitted image has one.
@@ -49,16 +51,19 @@ impl<'a> Tree<'a> {
     }
 
     /// The kind of node i.
+    #[inline]
     pub fn kind(&self, i: usize) -> u8 {
         self.nodes.get(i).map_or(0, |node| node.kind)
     }
 
     /// One past the last node of the subtree of node i.
+    #[inline]
     pub fn end(&self, i: usize) -> usize {
         self.nodes.get(i).map_or(self.len(), |node| node.end)
     }
 
     /// The bytes of the name that node i carries.
+    #[inline]
     pub fn text(&self, i: usize) -> &'a [u8] {
         self.nodes.get(i).map_or(&[], |node| node.text)
     }
