@@ -20,7 +20,7 @@ use Rattle.nodes.specs.Shown.{View, In, tree_of}
 use Rattle.nodes.proofs.Names.{either-false}
 use Rattle.nodes.proofs.Parts.{inside, past, there}
 use Rattle.nodes.proofs.Shapes.{within, ends-within, first-inside}
-use Rattle.nodes.proofs.Children.{Reached, no-child, reached-on}
+use Rattle.nodes.proofs.ChildrenOf.{Reached, no-child, reached-on}
 use Rattle.linear_occurrences.specs.Counted.{takes_node, is_value, peels_to, is_taken}
 
 -- the node that an argument peels to

@@ -14,7 +14,7 @@ use Rattle.image.proofs.Decide.{eq-or-ne}
 use Rattle.rules.specs.Sweep.{run}
 use Rattle.rules.specs.Vocabulary.{Rec, rec, only}
 use Rattle.rules.proofs.Reflect.{tells-eqb, tells-ltb, finds-only, finds-append, finds-run}
-use Rattle.records.specs.declared.Hit.{Hit}
+use Rattle.std.specs.Prelude.{Option}
 use Rattle.records.specs.Records.{Added, hit_list}
 use Rattle.records.proofs.Laws.{added-as, added-join}
 use Rattle.linear_rows.specs.Tallies.{marks_at, count_at, judged_at, by_cells}
@@ -37,7 +37,7 @@ module _ {a b m n : ℕ} (r : Rec) (d : a ≡ m) (e : b ≡ n) where
   twice l = simp (lt-ltb 1 (m + n) (omega arith))
 
 -- what was asked of a row whose place was read as q, one record after the other
-pub row-judged : {e : ℕ → ℕ} (m n s : ℕ) {p q : ℕ} (hit : Bool) (two : Hit) {o o' o'' : List ℕ} {k k' k'' : ℕ} → q ≡ p → hit ≡ eqb (m + n) 0 → only (ltb 1 (m + n)) (rec 62 q s) ≡ hit_list two 62 q
+pub row-judged : {e : ℕ → ℕ} (m n s : ℕ) {p q : ℕ} (hit : Bool) (two : Option ℕ) {o o' o'' : List ℕ} {k k' k'' : ℕ} → q ≡ p → hit ≡ eqb (m + n) 0 → only (ltb 1 (m + n)) (rec 62 q s) ≡ hit_list two 62 q
     → Added (λ (_ : Unit {0}). e) (λ _. only hit (rec 61 q 0)) 1 o k o' k' → Added (λ (_ : Unit {0}). e) (λ _. hit_list two 62 q) 1 o' k' o'' k'' → Added (λ (_ : Unit {0}). e) (λ _. by_cells p m n s) 2 o k o'' k''
 row-judged m n s {q = q} hit two d e f a b =
     added-as (λ x. ap (λ (p : ℕ). by_cells p m n s) d)

@@ -8,7 +8,6 @@ ghost use Rattle.records.specs.Records.{Adds, under, hit_list};
 ghost use Rattle.linear_rows.specs.Tallies.{marks_at, count_at, related_at, judged_at, Blanks};
 
 use linear_tracked::Cells;
-use records::Hit;
 
 // Three cells for each of the at most 511 rows of an entry: burn marks, counted occurrences, and that one of these which 62 is related to.
 pub type Tallies = [u16; 1533];
@@ -42,14 +41,14 @@ fn is_unused(tallies: &Tallies, row: usize) -> bool
 }
 
 // 62 at a row: over one, with its related word.
-fn used_twice(tallies: &Tallies, row: usize) -> Hit
+fn used_twice(tallies: &Tallies, row: usize) -> Option<u16>
     requires { row < 511 }
     ensures { (p : ℕ) → only (ltb 1 (marks_at tallies.now row + count_at tallies.now row)) (rec 62 p (related_at tallies.now row)) ≡ hit_list result 62 p }
 {
     if cell(tallies, row, MARKS) + cell(tallies, row, COUNT) <= 1 {
-        return Hit::Nothing;
+        return None;
     }
-    Hit::At(tallies[3 * row + RELATED])
+    Some(tallies[3 * row + RELATED])
 }
 
 // The cells of a row are blank again.

@@ -10,7 +10,9 @@ pub mod Heads
 pub mod Fields
 pub mod Spans
 pub mod Flat
-pub mod Children
+pub mod ChildrenOf
+pub mod Chains
+pub mod Iterated
 pub mod Walks
 pub mod Walking
 pub mod Naming

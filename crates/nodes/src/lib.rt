@@ -13,7 +13,10 @@ ghost use Rattle.nodes.specs.First.{NameFirst, HeadPart, Head};
 ghost use Rattle.nodes.specs.Walk.{onward};
 ghost use Rattle.nodes.specs.Cursors.{Stepped};
 
+mod walk;
+
 use image::Image;
+pub use walk::Children;
 
 // One mark for each of 1,024 names, by name number less one.
 pub type Marks = [bool; Image::NAMES];

@@ -11,8 +11,8 @@ use mathlib.Core.Bool.{Bool, true, false}
 use Rattle.rules.specs.Vocabulary.{Rec, rec, only}
 pub use Rattle.rules.proofs.Answers.{sets-append}
 use Rattle.rules.proofs.Answers.{words_same, laid-append}
-use Rattle.records.specs.declared.Hit.{Hit}
-use Rattle.records.specs.declared.Hit.TheVariants.{Nothing, At}
+use Rattle.std.specs.Prelude.{Option}
+use Rattle.std.specs.Prelude.{None, Some}
 use Rattle.records.specs.Records.{words, laid, Laid, Held, Added, hit_list}
 
 pub laid_none : {e : ℕ → ℕ} (o : List ℕ) (k : ℕ) → Laid e o k [] o k
@@ -49,9 +49,9 @@ unfolding only
 only-place c p true r m = ap (λ (x : Rec). x.place) (Memᴰ.eq_of_singleton m)
 only-place c p false r m = absurd (Memᴰ.not-nil m)
 
-hit-place : (c p : ℕ) (h : Hit) (r : Rec) → Memᴰ r (hit_list h c p) → r.place ≡ p
-hit-place c p Nothing r m = absurd (Memᴰ.not-nil m)
-hit-place c p (At q) r m = ap (λ (x : Rec). x.place) (Memᴰ.eq_of_singleton m)
+hit-place : (c p : ℕ) (h : Option ℕ) (r : Rec) → Memᴰ r (hit_list h c p) → r.place ≡ p
+hit-place c p None r m = absurd (Memᴰ.not-nil m)
+hit-place c p (Some q) r m = ap (λ (x : Rec). x.place) (Memᴰ.eq_of_singleton m)
 
 -- What a question answered, and its record, is what the rule adds, where the record's entry is the one that contains its place, in whichever tree y sees.
 module _ {X Y : Type 0} (g : Y → X) {F : X → List Rec} {e : Y → ℕ → ℕ} (c p : ℕ) {n : ℕ} {o o' : List ℕ} {k k' : ℕ} where
@@ -65,10 +65,10 @@ module _ {X Y : Type 0} (g : Y → X) {F : X → List Rec} {e : Y → ℕ → �
   pub asked : ((y : Y) → e y p ≡ n) → (hit : Bool) → ((x : X) → F x ≡ only hit (rec c p 0)) → Added (λ (_ : Unit {0}) _. n) (λ _. only hit (rec c p 0)) 1 o k o' k' → Added e (λ y. F (g y)) 1 o k o' k'
   asked held hit q a = asked-or (λ y. inr (held y)) hit q a
 
-  pub asked-at-or : ((y : Y) → (F (g y) ≡ []) ⊎ (e y p ≡ n)) → (hit : Hit) → ((x : X) → F x ≡ hit_list hit c p) → Added (λ (_ : Unit {0}) _. n) (λ _. hit_list hit c p) 1 o k o' k' → Added e (λ y. F (g y)) 1 o k o' k'
+  pub asked-at-or : ((y : Y) → (F (g y) ≡ []) ⊎ (e y p ≡ n)) → (hit : Option ℕ) → ((x : X) → F x ≡ hit_list hit c p) → Added (λ (_ : Unit {0}) _. n) (λ _. hit_list hit c p) 1 o k o' k' → Added e (λ y. F (g y)) 1 o k o' k'
   asked-at-or held hit q a = at_place held (hit-place c p hit) q a
 
-  pub asked-at : ((y : Y) → e y p ≡ n) → (hit : Hit) → ((x : X) → F x ≡ hit_list hit c p) → Added (λ (_ : Unit {0}) _. n) (λ _. hit_list hit c p) 1 o k o' k' → Added e (λ y. F (g y)) 1 o k o' k'
+  pub asked-at : ((y : Y) → e y p ≡ n) → (hit : Option ℕ) → ((x : X) → F x ≡ hit_list hit c p) → Added (λ (_ : Unit {0}) _. n) (λ _. hit_list hit c p) 1 o k o' k' → Added e (λ y. F (g y)) 1 o k o' k'
   asked-at held hit q a = asked-at-or (λ y. inr (held y)) hit q a
 
 -- something is held wherever there is an x: all nodes by one entry

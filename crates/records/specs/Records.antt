@@ -5,8 +5,8 @@ use Rattle.rules.specs.Tree.{Tree}
 use Rattle.rules.specs.Vocabulary.{Rec, rec, only}
 use Rattle.rules.specs.All.{entry_of}
 pub use Rattle.rules.specs.Answers.{words, laid}
-use Rattle.records.specs.declared.Hit.{Hit}
-use Rattle.records.specs.declared.Hit.TheVariants.{Nothing, At}
+use Rattle.std.specs.Prelude.{Option}
+use Rattle.std.specs.Prelude.{None, Some}
 
 -- the k₀ records before are followed by the records l, where e gives the entry of each node: so many are counted then, and so the
 -- buffer stands
@@ -49,9 +49,9 @@ abbrev pub Asks : {X : Type 0} → (X → Entered) → ℕ → ℕ → Bool → 
 Asks {X} S c p r = (x : X) → (S x).list ≡ only r (rec c p 0)
 
 -- where a record has something related: what an answer says; a question answers what a rule gives
-abbrev pub hit_list : Hit → ℕ → ℕ → List Rec
-hit_list Nothing c p = []
-hit_list (At q) c p = rec c p q ∷ []
+abbrev pub hit_list : Option ℕ → ℕ → ℕ → List Rec
+hit_list None c p = []
+hit_list (Some q) c p = rec c p q ∷ []
 
-abbrev pub AsksAt : {X : Type 0} → (X → Entered) → ℕ → ℕ → Hit → Type 0
+abbrev pub AsksAt : {X : Type 0} → (X → Entered) → ℕ → ℕ → Option ℕ → Type 0
 AsksAt {X} S c p r = (x : X) → (S x).list ≡ hit_list r c p

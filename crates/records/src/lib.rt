@@ -44,16 +44,9 @@ pub fn emit_if(
     count
 }
 
-// What a rule whose record has a related word answers: no record, or one with that word.
-#[derive(Clone, Copy)]
-pub enum Hit {
-    Nothing,
-    At(u16),
-}
-
-// The record of a rule that asks about node `place` of an entry (0: of none), if it answers one.
+// The record of a rule that asks about node `place` of an entry (0: of none), if it answers one: its related word.
 pub fn emit_hit(
-    hit: Hit,
+    hit: Option<u16>,
     out: &mut [u16],
     count: usize,
     code: u16,
@@ -64,7 +57,7 @@ pub fn emit_hit(
     ensures { Adds (λ (_ : Unit {0}). under entry (hit_list hit code place)) 1 out.old out.new count result }
 {
     match hit {
-        Hit::Nothing => count,
-        Hit::At(related) => emit(out, count, code, place as u16, related, entry as u16),
+        None => count,
+        Some(related) => emit(out, count, code, place as u16, related, entry as u16),
     }
 }

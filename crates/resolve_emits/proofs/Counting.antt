@@ -16,7 +16,7 @@ use Rattle.nodes.specs.Shown.{View, In, tree_of}
 use Rattle.nodes.proofs.Parts.{inside, formed, past}
 use Rattle.nodes.proofs.Shapes.{ends-within}
 use Rattle.resolve_emits.specs.Emitted.{IsKind}
-use Rattle.nodes.proofs.Children.{Reached, no-child, reached-on}
+use Rattle.nodes.proofs.ChildrenOf.{Reached, no-child, reached-on}
 
 -- the numbers that pass a test
 abbrev pub those : (ℕ → Bool) → ℕ → List ℕ

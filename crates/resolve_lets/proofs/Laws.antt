@@ -9,7 +9,7 @@ use Rattle.rules.specs.Sweep.{keep}
 use Rattle.rules.specs.Tree.{Tree, param, «let»}
 use Rattle.rules.specs.Vocabulary.{Rec, rec, only, first_named}
 use Rattle.rules.specs.Resolve.{rule26, rule27, rule28, rule29, let_rules}
-use Rattle.records.specs.declared.Hit.{Hit}
+use Rattle.std.specs.Prelude.{Option}
 use Rattle.records.specs.Records.{hit_list}
 use Rattle.places.specs.Places.{first_of}
 use Rattle.places.proofs.Reading.{first-late, first-declares}
@@ -30,5 +30,5 @@ lets_at t e p true = let y : p + 0 ≡ p = omega arith in let z : first_named t 
 lets_at t e p false = refl
 
 -- a record about the node itself
-pub at-itself : {X : Type 0} {F : X → List Rec} (c p : ℕ) (hit : Hit) → ((x : X) → F x ≡ hit_list hit c (p + 0)) → (x : X) → F x ≡ hit_list hit c p
+pub at-itself : {X : Type 0} {F : X → List Rec} (c p : ℕ) (hit : Option ℕ) → ((x : X) → F x ≡ hit_list hit c (p + 0)) → (x : X) → F x ≡ hit_list hit c p
 at-itself c p hit q = let e : p + 0 ≡ p = omega arith in rw e at q

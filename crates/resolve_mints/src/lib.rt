@@ -8,7 +8,7 @@ ghost use Rattle.nodes.specs.Shown.{View, In, tree_of};
 ghost use Rattle.nodes.specs.Entries.{in_part};
 ghost use Rattle.resolve_mints.specs.Minted.{Minting, at22, item22, minted, swept22};
 
-use nodes::{ASSET, CALL, Cursor, IDENT};
+use nodes::{ASSET, CALL, Children, IDENT};
 
 // 22 at a node of an item's statements: a Call of Ident `mint_asset`, which has the number `mint`.
 fn rule22(nodes: &[u8], base: usize, p: usize, mint: usize) -> bool
@@ -38,10 +38,8 @@ fn calls22(
 {
     let end = base + nodes.len() / 16;
     let mut total = count;
-    let mut p = base;
-    while p < end {
+    for p in base..end {
         total = records::emit_if(rule22(nodes, base, p, mint), out, total, 22, p, entry);
-        p += 1;
     }
     total
 }
@@ -66,16 +64,9 @@ fn mint_calls(nodes: &[u8], mint: usize, out: &mut [u16], count: usize) -> usize
     requires { Minting nodes.now 0 mint × In nodes.now 0 0 × (count < 2 ^ 40) }
     ensures { Adds (minted mint_calls nodes.now 0 mint) (2048 * 2048) out.old out.new count result }
 {
-    let end = nodes::end(nodes, 0, 0);
     let mut total = count;
-    let mut children = Cursor {
-        base: 0,
-        at: 1,
-        end,
-    };
-    while children.at < children.end {
-        total = item22(nodes, children.at, mint, out, total);
-        children = children.step(nodes).rest;
+    for item in Children::of(nodes, 0, 0) {
+        total = item22(nodes, item, mint, out, total);
     }
     total
 }

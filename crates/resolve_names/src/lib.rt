@@ -15,21 +15,20 @@ ghost use Rattle.resolve_names.specs.Seen.{Among, met_rule, at_met, at_state, se
 use image::Image;
 use nodes::{EVENT, FIELD_DECL, Marks};
 use places::{Note, Places};
-use records::Hit;
 
 // 20, 21, 25 and 27 at a node, if it is of this kind: its name is met before. Related: the first of that name, or with `name` 1 its Name.
-pub fn met(kind: usize, nodes: &[u8], base: usize, p: usize, firsts: &Places, name: usize) -> Hit
+pub fn met(kind: usize, nodes: &[u8], base: usize, p: usize, firsts: &Places, name: usize) -> Option<u16>
     requires { NameFirst kind × Among nodes.now base kind p firsts.now × In nodes.now base p × (name ≤ 1) }
     ensures { (code : ℕ) → AsksAt (seen_among (at_met code (kind ∷ []) name p) nodes.now base kind p firsts.now) code (p + name) result }
 {
     if nodes::kind(nodes, base, p) != kind {
-        return Hit::Nothing;
+        return None;
     }
     let first = places::at(firsts, nodes, base, p + 1);
     if p <= first {
-        return Hit::Nothing;
+        return None;
     }
-    Hit::At((first + name) as u16)
+    Some((first + name) as u16)
 }
 
 // The fields or the events whose name is met before: they stand in no entry.

@@ -8,7 +8,7 @@ use Rattle.rules.specs.Sweep.{also}
 use Rattle.rules.proofs.Reflect.{tells-is_child}
 use Rattle.nodes.specs.Shown.{tree_of}
 use Rattle.nodes.proofs.Spans.{span_of, child-on}
-use Rattle.nodes.proofs.Children.{no-child, reached-on}
+use Rattle.nodes.proofs.ChildrenOf.{no-child, reached-on}
 use Rattle.nodes.proofs.Cursors.{before_last, past-last, still-over, on-to}
 use Rattle.linear_occurrences.specs.Counted.{peels_to}
 use Rattle.linear_occurrences.proofs.Cells.{putting-starts, putting-on, putting-done, cells-as}

@@ -4,7 +4,7 @@ use Rattle.rules.specs.Sweep.{also}
 use Rattle.rules.specs.Vocabulary.{is_child}
 use Rattle.nodes.specs.Shown.{View, tree_of}
 use Rattle.nodes.proofs.Spans.{Span}
-use Rattle.nodes.proofs.Children.{Reached}
+use Rattle.nodes.proofs.ChildrenOf.{Reached}
 use Rattle.nodes.proofs.Cursors.{Over}
 use Rattle.linear_occurrences.specs.Counted.{peels_to}
 use Rattle.linear_occurrences.proofs.Cells.{Putting}

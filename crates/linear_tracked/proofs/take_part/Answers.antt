@@ -4,7 +4,7 @@ use Prim.Native.Nat.{◌<◌}
 use mathlib.Core.Path.{◌≡◌, ap, ◌∙◌}
 use mathlib.Core.Bool.{true}
 use Rattle.rules.specs.Linear.{is_row}
-use Rattle.records.specs.declared.Hit.TheVariants.{At}
+use Rattle.std.specs.Prelude.{Some}
 use Rattle.records.proofs.Laws.{added-nothing, asked-at, added-long}
 use Rattle.nodes.specs.Shown.{tree_of}
 use Rattle.nodes.proofs.Parts.{past}
@@ -37,7 +37,7 @@ returns-in-Row c =
     let l = c.requires.2 in record { takes_row = λ T. (let h = row-long T.known.view (part_in T) (is_one T) in omega arith, λ xs R. let W = T.known.view in rows-push c.args.p (small) (is_one T) (c.place_of.ensures.0 W) R (c.note_row.ensures W _ R.first_rows) (c.note_row-in-Row.ensures W _ R.last_rows)); adds = added-nothing (λ h. at60-none (tree_of h.seen.known.view) h.seen.entry _ ((c.part_of.ensures h.seen).1 ∙ ap says60 c.in-Row.is)) }
 
 pub returns-in-Alias : goal.returns-in-Alias
-returns-in-Alias c = record { takes_row = λ T. (let h = (past T.known.view (part_in T)).0 in omega arith, λ xs R. rows-still c.args.p ((c.part_of.ensures T).0 ∙ ap says_row c.in-Alias.is) R); adds = asked-at (λ h. h.seen) 60 _ (λ h. h.held _ (omega arith) (omega arith)) (At 0) (λ T. at60-one (tree_of T.known.view) T.entry _ ((c.part_of.ensures T).1 ∙ ap says60 c.in-Alias.is)) c.emit-total.ensures }
+returns-in-Alias c = record { takes_row = λ T. (let h = (past T.known.view (part_in T)).0 in omega arith, λ xs R. rows-still c.args.p ((c.part_of.ensures T).0 ∙ ap says_row c.in-Alias.is) R); adds = asked-at (λ h. h.seen) 60 _ (λ h. h.held _ (omega arith) (omega arith)) (Some 0) (λ T. at60-one (tree_of T.known.view) T.entry _ ((c.part_of.ensures T).1 ∙ ap says60 c.in-Alias.is)) c.emit-total.ensures }
 
 pub returns-in-Other : goal.returns-in-Other
 returns-in-Other c = record { takes_row = λ T. (let h = (past T.known.view (part_in T)).0 in omega arith, λ xs R. rows-still c.args.p ((c.part_of.ensures T).0 ∙ ap says_row c.in-Other.is) R); adds = added-nothing (λ h. at60-none (tree_of h.seen.known.view) h.seen.entry _ ((c.part_of.ensures h.seen).1 ∙ ap says60 c.in-Other.is)) }

@@ -9,6 +9,3 @@ use Rattle.resolve_mints.proofs.calls22.Given as goal
 
 abbrev pub invariant-loop-p : goal.invariant-loop-p
 invariant-loop-p l = Span l.nodes l.base l.base l.end × Sweeping (λ (h : HeldPart l.nodes l.base l.entry (Minting l.nodes l.base l.mint)). h.entries) (λ h i. at22 i (tree_of h.seen.view)) l.base l.end 1 l.initial.out l.count l.out l.total l.p
-
-abbrev pub decreases-loop-p : goal.decreases-loop-p
-decreases-loop-p l = l.end - l.p

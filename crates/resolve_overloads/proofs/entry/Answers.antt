@@ -4,7 +4,7 @@ use Prim.Native.Nat.{ℕ, ◌+◌, ◌<◌, ◌≤◌}
 use mathlib.Core.Path.{◌≡◌, sym, ◌∙◌, subst}
 use Rattle.rules.specs.All.{entry_of}
 use Rattle.rules.specs.Resolve.{signature, first_signed}
-use Rattle.records.specs.declared.Hit.TheVariants.{At}
+use Rattle.std.specs.Prelude.{Some}
 use Rattle.records.proofs.Laws.{asked-at, added-nothing}
 use Rattle.nodes.specs.Shown.{View, tree_of}
 use Rattle.nodes.proofs.Entries.{entry-holds}
@@ -25,7 +25,7 @@ returns-then-first-item c =
     } in
     let found : (C : Given) → c.first_signed-first.result ≡ first_signed (tree_of C.view) (signature (tree_of C.view) c.args.item) = λ C. c.first_signed-first.ensures.1 (sought C) in
     let name-stands : (C : Given) → entry_of (tree_of C.view) (c.args.item + 1) ≡ c.args.item = λ C. let P = c.requires in let k = is_entry C.view in let h = (params-from C.view P.1 k).1 in entry-holds C.view P.1 P.2 k _ (omega arith) (omega arith) in
-    let P = c.requires in record { adds = asked-at (λ (C : Given). C) 23 _ (name-stands) (At _) (λ C. at_one (tree_of C.view) _ (is_entry C.view) (found C) c.if-first-item.true) c.emit.ensures; chaining = λ C. chains-skip C.view.image C.chains (not_new C.view P.1 (is_entry C.view) (subst (λ (x : ℕ). x < c.args.item) (found C) c.if-first-item.true)) }
+    let P = c.requires in record { adds = asked-at (λ (C : Given). C) 23 _ (name-stands) (Some _) (λ C. at_one (tree_of C.view) _ (is_entry C.view) (found C) c.if-first-item.true) c.emit.ensures; chaining = λ C. chains-skip C.view.image C.chains (not_new C.view P.1 (is_entry C.view) (subst (λ (x : ℕ). x < c.args.item) (found C) c.if-first-item.true)) }
 
 pub returns : goal.returns
 returns c =
