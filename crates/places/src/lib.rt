@@ -20,19 +20,13 @@ pub enum Note {
     Off,
 }
 
-fn wide(x: u16) -> usize
-    ensures { (result ≡ x) × (result < 65536) }
-{
-    x as usize
-}
-
 // The node that is noted for the word of node p; 0 where none is.
 pub fn at(places: &Places, nodes: &[u8], base: usize, p: usize) -> usize
     requires { Worded nodes.now base p }
     ensures { (result < 65536) × ((W : View nodes.now base) (F : List ℕ → ℕ) → Places W.image F places.now → result ≡ F ((tree_of W).text p)) }
 {
     let x = nodes::name(nodes, base, p);
-    wide(places[x - 1])
+    usize::from(places[x - 1])
 }
 
 pub fn taken(note: Note, was: u16, p: u16) -> u16

@@ -1,4 +1,5 @@
 -- `at` meets its contract: what the table notes for the number of the word.
+use borrow.Author.Rules.{rules}
 use native.Mathlib.Omega.{arith}
 use mathlib.Core.Path.{◌∙◌, ap}
 use Prim.Native.Nat.{ℕ, ◌-◌}
@@ -17,4 +18,4 @@ pub bounds-places-x : goal.bounds-places-x
 bounds-places-x c = let g = numbered c.requires c.name-x.ensures in omega arith
 
 pub returns : goal.returns
-returns c = (c.wide.ensures.1, λ W F N. c.wide.ensures.0 ∙ ap (λ (x : ℕ). get_or c.args.places.now (x - 1) 0) (c.name-x.ensures W) ∙ tells W c.requires.here N (carries-in W c.requires))
+returns c = (search rules, λ W F N. c.from.ensures ∙ ap (λ (x : ℕ). get_or c.args.places.now (x - 1) 0) (c.name-x.ensures W) ∙ tells W c.requires.here N (carries-in W c.requires))
