@@ -1,4 +1,5 @@
 -- The modules of the proofs.
+pub mod Read
 pub mod Stack
 pub mod Deep
 pub mod Marked

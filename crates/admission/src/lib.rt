@@ -8,16 +8,20 @@ ghost use Rattle.image.specs.Maxima.{max_nodes, max_names, max_depth};
 ghost use Rattle.image.specs.Digits.{Rooted, WalkTables, mark_at, next_states, kind_table};
 ghost use Rattle.image.specs.Text.{names_ok};
 ghost use Rattle.image.specs.Tree.{node_ok, tree_ok, depth_ok, used_in};
+ghost use Rattle.image.specs.Refusals.{refused_by};
 ghost use Rattle.image.specs.Admit.{body_refusal, refusal, admission_of};
 
 use children::{KINDS, Kinds, MAY_END, Nexts, ROW, TEXT};
-use image::{Admission, Image};
+use image::{Image, Refusal};
 
-// Refusal 7, or 0, where `deepest` is what the deepest node has of ancestors besides the contract.
-fn too_deep(deepest: usize) -> usize
-    ensures { result ≡ pick (ltb deepest max_depth) 0 7 }
+// Refusal 7, where `deepest` is what the deepest node has of ancestors besides the contract.
+fn check_depth(deepest: usize) -> Result<(), Refusal>
+    ensures { refused_by result ≡ pick (ltb deepest max_depth) 0 7 }
 {
-    if deepest < Image::DEPTH { 0 } else { 7 }
+    if deepest < Image::DEPTH {
+        return Ok(());
+    }
+    Err(Refusal::Depth)
 }
 
 // Refusals 6 and 7, given what was seen of node 0, and a mark for each name that a node has: one walk over the nodes, with the ancestors of the open node on a stack.
@@ -32,25 +36,25 @@ fn walk(
     states: &mut [u8; Image::NODES],
     ends: &mut [u16; Image::NODES],
     marks: &mut [bool; Image::NAMES + 1],
-) -> usize
+) -> Result<(), Refusal>
     requires { (n ≤ max_nodes) × (m ≤ max_names) × (16 * n ≤ length nodes.now) × (2 * m + 2 ≤ length names.now) × (names_ok names.now text.now m ≡ true) × (kinds.now ≡ kind_table) × (nexts.now ≡ next_states) × Rooted nodes.now names.now text.now n m × WalkTables nodes.now states.old ends.old marks.old }
-    ensures value { result ≡ pick (every (node_ok nodes.now names.now text.now n m) n) (pick (depth_ok nodes.now n) 0 7) 6 }
-    ensures false_after { result ≡ 0 → (k : ℕ) → k < max_names → get_or marks.new (k + 1) false ≡ used_in nodes.now n k }
+    ensures value { refused_by result ≡ pick (every (node_ok nodes.now names.now text.now n m) n) (pick (depth_ok nodes.now n) 0 7) 6 }
+    ensures false_after { refused_by result ≡ 0 → (k : ℕ) → k < max_names → get_or marks.new (k + 1) false ≡ used_in nodes.now n k }
 {
     let mut p = steps::start(n);
     loop {
         if p.end == p.at {
             if p.state < MAY_END {
-                return 6;
+                return Err(Refusal::Tree);
             }
             if p.depth < 1 {
-                return too_deep(p.deepest);
+                return check_depth(p.deepest);
             }
             p = steps::up(p, states, ends);
         } else {
             let of = children::facts(kinds, image::kind(nodes, p.at));
             if !steps::child_ok(nodes, names, text, m, of, p) {
-                return 6;
+                return Err(Refusal::Tree);
             }
             steps::mark(nodes, p.at, marks);
             let after = children::next(nexts, p.state, of % TEXT);
@@ -67,14 +71,14 @@ fn tree(
     n: usize,
     m: usize,
     marks: &mut [bool; Image::NAMES + 1],
-) -> usize
+) -> Result<(), Refusal>
     requires { (1 ≤ n) × (n ≤ max_nodes) × (m ≤ max_names) × (16 * n ≤ length nodes.now) × (2 * m + 2 ≤ length names.now) × (names_ok names.now text.now m ≡ true) × (marks.old ≡ replicate (max_names + 1) false) }
-    ensures value { result ≡ pick (tree_ok nodes.now names.now text.now n m) (pick (depth_ok nodes.now n) 0 7) 6 }
-    ensures false_after { result ≡ 0 → (k : ℕ) → k < max_names → get_or marks.new (k + 1) false ≡ used_in nodes.now n k }
+    ensures value { refused_by result ≡ pick (tree_ok nodes.now names.now text.now n m) (pick (depth_ok nodes.now n) 0 7) 6 }
+    ensures false_after { refused_by result ≡ 0 → (k : ℕ) → k < max_names → get_or marks.new (k + 1) false ≡ used_in nodes.now n k }
 {
     let kinds = KINDS;
     if !steps::root_ok(&kinds, nodes, names, text, n, m) {
-        return 6;
+        return Err(Refusal::Tree);
     }
     steps::mark(nodes, 0, marks);
     let nexts = children::transitions();
@@ -109,41 +113,41 @@ fn used_ok(marks: &[bool; Image::NAMES + 1], m: usize) -> bool
     true
 }
 
-// Refusals 5 to 8 of the three parts of an image, or 0. Each is settled for the whole image before the next is looked at.
-fn judge(nodes: &[u8], names: &[u8], text: &[u8], n: usize, m: usize) -> usize
+// Refusals 5 to 8 of the three parts of an image. Each is settled for the whole image before the next is looked at.
+fn judge(
+    nodes: &[u8],
+    names: &[u8],
+    text: &[u8],
+    n: usize,
+    m: usize,
+) -> Result<(), Refusal>
     requires { (1 ≤ n) × (n ≤ max_nodes) × (16 * n ≤ length nodes.now) × (2 * m + 2 ≤ length names.now) × (m ≤ max_names) }
-    ensures { result ≡ body_refusal nodes.now names.now text.now n m }
+    ensures { refused_by result ≡ body_refusal nodes.now names.now text.now n m }
 {
     if !name_table::names_ok(names, text, m) {
-        return 5;
+        return Err(Refusal::Names);
     }
     let mut marks = [false; Image::NAMES + 1];
-    let r = tree(nodes, names, text, n, m, &mut marks);
-    if r != 0 {
-        return r;
-    }
+    tree(nodes, names, text, n, m, &mut marks)?;
     if !used_ok(&marks, m) {
-        return 8;
+        return Err(Refusal::Unused);
     }
-    0
+    Ok(())
 }
 
 // Every byte slice is admitted, or refused by number.
-pub fn admit(s: &[u8]) -> Admission
+pub fn admit(s: &[u8]) -> Result<Image, Refusal>
     ensures { result ≡ admission_of (refusal s.now) s.now }
 {
-    match Image::read(s) {
-        Admission::Refused(r) => Admission::Refused(r),
-        Admission::Admitted(image) => {
-            let n = image.nodes;
-            let m = image.names;
-            let a = image.names_at();
-            let b = image.text_at();
-            let r = judge(&s[Image::HEADER..a], &s[a..b], &s[b..], n, m);
-            if r != 0 {
-                return Admission::Refused(r);
-            }
-            Admission::Admitted(image)
-        }
-    }
+    let image = Image::read(s)?;
+    let a = image.names_at();
+    let b = image.text_at();
+    judge(
+        &s[Image::HEADER..a],
+        &s[a..b],
+        &s[b..],
+        image.nodes,
+        image.names,
+    )?;
+    Ok(image)
 }

@@ -7,6 +7,7 @@ ghost use Rattle.std.specs.Prelude.{◌≡◌, ◌+◌, ◌*◌, ◌<◌, ◌≤
 ghost use Rattle.image.specs.Maxima.{max_nodes, max_names};
 ghost use Rattle.image.specs.Node.{half, full_word, kind_of, name_of, end_of, from_of, to_of};
 ghost use Rattle.image.specs.Text.{less, off_of};
+ghost use Rattle.image.specs.Refusals.{number_of};
 ghost use Rattle.image.specs.Admit.{names_at, text_at, layout_ok, header_refusal, admission_of};
 
 // An image whose header is in order: its counts.
@@ -16,11 +17,25 @@ pub struct Image {
     pub names: usize,
 }
 
-// What becomes of a byte slice: an image, or the number of its refusal.
-#[derive(Clone, Copy)]
-pub enum Admission {
-    Admitted(Image),
-    Refused(usize),
+// Why bytes are no image: document 01's refusals 1 to 8.
+#[derive(Clone, Copy, PartialEq, Eq)]
+pub enum Refusal {
+    Length = 1,
+    Version = 2,
+    Counts = 3,
+    Layout = 4,
+    Names = 5,
+    Tree = 6,
+    Depth = 7,
+    Unused = 8,
+}
+
+impl Refusal {
+    pub fn number(self) -> usize
+        ensures { result ≡ number_of self }
+    {
+        self as usize
+    }
 }
 
 impl Image {
@@ -43,37 +58,37 @@ impl Image {
         + Image::TEXT;
 
     // The header, refusals 1 to 4.
-    pub fn read(s: &[u8]) -> Admission
+    pub fn read(s: &[u8]) -> Result<Image, Refusal>
         ensures { result ≡ admission_of (header_refusal s.now) s.now }
     {
         if s.len() < Image::HEADER {
-            return Admission::Refused(1);
+            return Err(Refusal::Length);
         }
         if Image::LENGTH < s.len() {
-            return Admission::Refused(1);
+            return Err(Refusal::Length);
         }
         if half_at(s, 0) != 1 {
-            return Admission::Refused(2);
+            return Err(Refusal::Version);
         }
         if half_at(s, 6) != 0 {
-            return Admission::Refused(2);
+            return Err(Refusal::Version);
         }
         let n = half_at(s, 2);
         let m = half_at(s, 4);
         if n < 1 {
-            return Admission::Refused(3);
+            return Err(Refusal::Counts);
         }
         if Image::NODES < n {
-            return Admission::Refused(3);
+            return Err(Refusal::Counts);
         }
         if Image::NAMES < m {
-            return Admission::Refused(3);
+            return Err(Refusal::Counts);
         }
         let image = Image { nodes: n, names: m };
         if !layout_ok(s, image) {
-            return Admission::Refused(4);
+            return Err(Refusal::Layout);
         }
-        Admission::Admitted(image)
+        Ok(image)
     }
 
     // The byte at which the names start: the nodes end there.
@@ -119,7 +134,7 @@ fn layout_ok(s: &[u8], image: Image) -> bool
 pub fn wide(b: u8) -> usize
     ensures { (result ≡ b) × (result < 256) }
 {
-    b as usize
+    usize::from(b)
 }
 
 // The u16 at byte k.
@@ -127,9 +142,7 @@ pub fn half_at(s: &[u8], k: usize) -> usize
     requires { k + 1 < length s.now }
     ensures { (result ≡ half s.now k) × (result < 65536) }
 {
-    let lo = wide(s[k]);
-    let hi = wide(s[k + 1]);
-    lo + 256 * hi
+    usize::from(s[k]) + 256 * usize::from(s[k + 1])
 }
 
 // The u32 at byte k.
@@ -145,7 +158,7 @@ pub fn kind(nodes: &[u8], i: usize) -> usize
     requires { 16 * i + 16 ≤ length nodes.now }
     ensures { (result ≡ kind_of nodes.now i) × (result < 256) }
 {
-    wide(nodes[16 * i])
+    usize::from(nodes[16 * i])
 }
 
 pub fn name(nodes: &[u8], i: usize) -> usize
@@ -188,15 +201,5 @@ pub fn offset(names: &[u8], k: usize) -> usize
 pub fn below(t: &[u8], u: &[u8]) -> bool
     ensures { result ≡ less t.now u.now }
 {
-    let mut k = 0;
-    while k < u.len() {
-        if t.len() <= k {
-            return true;
-        }
-        if t[k] != u[k] {
-            return t[k] < u[k];
-        }
-        k += 1;
-    }
-    false
+    t < u
 }

@@ -16,7 +16,7 @@ pub returns-then-p-lt-MAY_END : goal.returns-then-p-lt-MAY_END
 returns-then-p-lt-MAY_END c = let t = wanting _ _ _ _ _ c.loop-p.invariant c.if-p.true c.if-p-lt-MAY_END.true in record { value = t.0; false_after = t.1 }
 
 pub returns-then-p-lt1 : goal.returns-then-p-lt1
-returns-then-p-lt1 c = let t = finished _ _ _ _ _ c.loop-p.invariant c.if-p.true c.if-p-lt-MAY_END.false c.if-p-lt1.true _ c.too_deep.ensures in record { value = t.0; false_after = t.1 }
+returns-then-p-lt1 c = let t = finished _ _ _ _ _ c.loop-p.invariant c.if-p.true c.if-p-lt-MAY_END.false c.if-p-lt1.true _ c.check_depth.ensures in record { value = t.0; false_after = t.1 }
 
 pub up-p-requires : goal.up-p-requires
 up-p-requires c =

@@ -1,7 +1,7 @@
 -- `Image::read` meets its contract: refusals 1 to 4 in their order.
 use Rattle.image.specs.Pick.{pick}
 use Rattle.image.specs.Admit.{header_refusal, layout_ok, node_count, name_count, admission_of}
-use Rattle.image.specs.declared.Admission.TheVariants.{Admitted}
+use Rattle.std.specs.Prelude.{Ok}
 use Rattle.image.proofs.Verdict.{short, long, version, spare, no-nodes, many-nodes, many-names, laid_out}
 use native.Mathlib.Omega.{arith}
 use Prim.Native.Nat.{ℕ}
@@ -43,5 +43,5 @@ returns c =
     let e : layout_ok s (node_count s) (name_count s) ≡ c.layout_ok.result = cc in
     laid_out s (omega arith) (omega arith) (omega arith) (omega arith) (omega arith) (omega arith) (omega arith) ∙ ap (λ (b : Bool). pick b 0 4) e in
     let s = c.args.s.now in
-    let p : Admitted (record { nodes = c.half_at-n.result; names = c.half_at-m.result }) ≡ admission_of 0 s = cc in
+    let p : Ok (record { nodes = c.half_at-n.result; names = c.half_at-m.result }) ≡ admission_of 0 s = cc in
     p ∙ ap (λ (r : ℕ). admission_of r s) (sym (laid-at ∙ ap (λ (b : Bool). pick b 0 4) c.if-not-layout_ok.false))

@@ -1,9 +1,0 @@
--- `too_deep` meets its contract.
-use borrow.Author.Tests.{lt-ltb, le-ltb}
-use Rattle.admission.proofs.too_deep.Goals as goal
-
-pub returns-then-deepest-lt-DEPTH : goal.returns-then-deepest-lt-DEPTH
-returns-then-deepest-lt-DEPTH c = simp (lt-ltb _ _ c.if-deepest-lt-DEPTH.true)
-
-pub returns-else-deepest-lt-DEPTH : goal.returns-else-deepest-lt-DEPTH
-returns-else-deepest-lt-DEPTH c = simp (le-ltb _ _ c.if-deepest-lt-DEPTH.false)
