@@ -12,7 +12,10 @@ use lib.Seq.{sets, sets-eq, set_out, take_all, drop-drop}
 use Rattle.image.specs.Pick.{pick, both}
 use Rattle.image.specs.Admit.{refusal, admission_of}
 use Rattle.image.specs.declared.Image.{Image}
-use Rattle.image.specs.declared.Admission.TheVariants as admission
+use Rattle.image.specs.declared.Refusal.{Refusal}
+use Rattle.image.specs.Refusals.{refusal_of}
+use Rattle.image.proofs.Refusals.{known}
+use Rattle.std.specs.Prelude.{Option, None, Some, Ok, Err}
 use Rattle.image.proofs.Every.{both_left}
 use Rattle.image.proofs.Verdict.{refused-is}
 use Rattle.rules.specs.Tree.{Tree, tree}
@@ -28,11 +31,10 @@ use Rattle.rules.proofs.Passes.{Judges, judges-resolve, judges-access, judges-li
 use Rattle.records.specs.Records.{words, Laid, Added}
 use Rattle.records.proofs.Laws.{laid-join, laid-long}
 use Rattle.nodes.proofs.Admission.{refused-number}
-use Rattle.passes.specs.declared.Verdict.{Verdict}
-use Rattle.passes.specs.declared.Verdict.TheVariants as answer
+use Rattle.passes.specs.declared.Offence.{Offence}
 use Rattle.passes.specs.declared.Pass.{Pass}
 use Rattle.passes.specs.declared.Pass.TheVariants as pass
-use Rattle.passes.specs.Verdicts.{answer_of, verdict_of, Judged, records_of, verdict_by}
+use Rattle.passes.specs.Verdicts.{Verdict, answer_of, verdict_of, refused_with, Judged, records_of, verdict_by}
 
 -- A pass: the first record, from a buffer of four words
 
@@ -40,50 +42,59 @@ sets-out : (ws l : List ℕ) (i : ℕ) → length l ≤ i → sets l i ws ≡ l
 sets-out [] l i h = refl
 sets-out (w ∷ ws) l i h = ap (λ (m : List ℕ). sets m (suc i) ws) (set_out l i w h) ∙ sets-out ws l (suc i) (omega arith)
 
-pub first_none : (s : List ℕ) {e : ℕ → ℕ} (l : List Rec) {o : List ℕ} {k : ℕ} → Laid e (replicate 4 0) 0 l o k → k ≡ 0 → answer.Accepted ≡ verdict_by s l
+pub first_none : (s : List ℕ) {e : ℕ → ℕ} (l : List Rec) {o : List ℕ} {k : ℕ} → Laid e (replicate 4 0) 0 l o k → k ≡ 0 → None ≡ verdict_by s l
 first_none s [] L e = refl
 first_none s (r ∷ l) {o} {k} L z = let c : k ≡ 0 + suc (length l) = L.count in absurd (omega arith)
 
+abbrev refused : Offence → Option Offence
+refused o = Some o
+
 pub first_one : (s : List ℕ) {e : ℕ → ℕ} (l : List Rec) {o : List ℕ} {k p f t : ℕ} → Laid e (replicate 4 0) 0 l o k → (k ≡ 0 → ⊥)
-    → p ≡ get_or o 1 0 → f ≡ rules.span_from s p → t ≡ rules.span_to s p → answer.Refused (get_or o 0 0) (get_or o 1 0) f t ≡ verdict_by s l
+    → p ≡ get_or o 1 0 → f ≡ rules.span_from s p → t ≡ rules.span_to s p → refused (record { code = get_or o 0 0; place = get_or o 1 0; from = f; to = t }) ≡ verdict_by s l
 first_one s [] {k = k} L n z x y = let c : k ≡ 0 + 0 = L.count in absurd (n (omega arith))
 first_one s {e} (r ∷ l) {o} L n z x y =
     let w : o ≡ r.code ∷ r.place ∷ r.related ∷ e r.place ∷ [] = L.words ∙ sets-out (words e l) (r.code ∷ r.place ∷ r.related ∷ e r.place ∷ []) 4 (omega arith) in
     rw (x, y, z, w)
 
-case-image : (r : ℕ) → (r ≡ 0 → ⊥) → r ≤ 8 → answer.Image r ≡ verdict_of (rules.image_refused r)
+case-image : (r : ℕ) → (r ≡ 0 → ⊥) → r ≤ 8 → Err (refusal_of r) ≡ verdict_of (rules.image_refused r)
 case-image r n h = sym (simp (ne_eqb r 0 n, lt-ltb r 9 (omega arith)))
 
-case-code : (c p f t : ℕ) → 9 ≤ c → answer.Refused c p f t ≡ verdict_of (record { number = c; place = p; from = f; to = t })
-case-code c p f t h = sym (simp (ne_eqb c 0 (λ e. omega arith), le-ltb c 9 h))
+case-code : (a : rules.Answer) → 9 ≤ a.number → Ok (Some (refused_with a)) ≡ verdict_of a
+case-code a h = sym (simp (ne_eqb a.number 0 (λ e. omega arith), le-ltb a.number 9 h))
 
-first-numbers : (s : List ℕ) (l : List Rec) → answer_of (verdict_by s l) ≡ rules.verdict s l
+first-numbers : (s : List ℕ) (l : List Rec) → answer_of (Ok (verdict_by s l)) ≡ rules.verdict s l
 first-numbers s [] = refl
 first-numbers s (r ∷ l) = refl
 
-first-case : (s : List ℕ) (p : passes.PassRules) (l : List Rec) → 9 ≤ p.least → verdict_by s (passes.of_pass p l) ≡ verdict_of (rules.verdict s (passes.of_pass p l))
+first-case : (s : List ℕ) (p : passes.PassRules) (l : List Rec) → 9 ≤ p.least → Ok (verdict_by s (passes.of_pass p l)) ≡ verdict_of (rules.verdict s (passes.of_pass p l))
 unfolding passes.of_pass
 first-case s p [] h = refl
 first-case s p (r ∷ l) h = go (first-case s p l h) (both (leb p.least r.code) (leb r.code p.most)) refl
   where
-    go : verdict_by s (passes.of_pass p l) ≡ verdict_of (rules.verdict s (passes.of_pass p l)) → (b : Bool) → both (leb p.least r.code) (leb r.code p.most) ≡ b
-        → verdict_by s (pick b (r ∷ passes.of_pass p l) (passes.of_pass p l)) ≡ verdict_of (rules.verdict s (pick b (r ∷ passes.of_pass p l) (passes.of_pass p l)))
-    go i true e = let g = leb-true p.least r.code (both_left _ _ e) in case-code _ _ _ _ (omega arith)
+    go : Ok (verdict_by s (passes.of_pass p l)) ≡ verdict_of (rules.verdict s (passes.of_pass p l)) → (b : Bool) → both (leb p.least r.code) (leb r.code p.most) ≡ b
+        → Ok (verdict_by s (pick b (r ∷ passes.of_pass p l) (passes.of_pass p l))) ≡ verdict_of (rules.verdict s (pick b (r ∷ passes.of_pass p l) (passes.of_pass p l)))
+    go i true e = let g = leb-true p.least r.code (both_left _ _ e) in case-code (rules.refused_at s r.code r.place) (omega arith)
     go i false e = i
 
-pub judged-refused : (pass : Tree → List Rec) (s : List ℕ) (k : ℕ) → admission_of (refusal s) s ≡ admission.Refused k → Judged pass s (answer.Image k)
+abbrev no_image : Refusal → Verdict
+no_image r = Err r
+
+pub judged-refused : (pass : Tree → List Rec) (s : List ℕ) (k : Refusal) → admission_of (refusal s) s ≡ Err k → Judged pass s (Err k)
 judged-refused pass s k e =
-    let n = refused-is (refusal s) s k e in
+    let n = (refused-is (refusal s) s k e).0 in
     let d = refused-number s k e in
     record {
       numbers = ap rules.image_refused d ∙ sym (pass-refused pass s n);
-      case = ap answer.Image d ∙ case-image (refusal s) n (refusal-most s) ∙ sym (ap verdict_of (pass-refused pass s n));
+      case = ap no_image (refused-is (refusal s) s k e).1 ∙ case-image (refusal s) n (refusal-most s) ∙ sym (ap verdict_of (pass-refused pass s n));
     }
 
-first_part : (p : passes.PassRules) (s : List ℕ) → 9 ≤ p.least → Judges (tree s) p → verdict_by s (p.part (tree s)) ≡ verdict_of (rules.verdict s (p.part (tree s)))
-first_part p s h j = ap (verdict_by s) (sym j.part) ∙ first-case s p (offences (tree s)) h ∙ ap (λ (l : List Rec). verdict_of (rules.verdict s l)) j.part
+abbrev told : Option Offence → Verdict
+told o = Ok o
 
-judged-by : (p : passes.PassRules) (s : List ℕ) {v : Verdict} → 9 ≤ p.least → refusal s ≡ 0 → Judges (tree s) p → v ≡ verdict_by s (p.part (tree s)) → Judged p.part s v
+first_part : (p : passes.PassRules) (s : List ℕ) → 9 ≤ p.least → Judges (tree s) p → Ok (verdict_by s (p.part (tree s))) ≡ verdict_of (rules.verdict s (p.part (tree s)))
+first_part p s h j = ap (λ (l : List Rec). told (verdict_by s l)) (sym j.part) ∙ first-case s p (offences (tree s)) h ∙ ap (λ (l : List Rec). verdict_of (rules.verdict s l)) j.part
+
+judged-by : (p : passes.PassRules) (s : List ℕ) {v : Verdict} → 9 ≤ p.least → refusal s ≡ 0 → Judges (tree s) p → v ≡ Ok (verdict_by s (p.part (tree s))) → Judged p.part s v
 judged-by p s h e j f = record {
   numbers = ap answer_of f ∙ first-numbers s (p.part (tree s)) ∙ sym (pass-admitted p.part s e);
   case = f ∙ first_part p s h j ∙ sym (ap verdict_of (pass-admitted p.part s e));
@@ -93,10 +104,10 @@ judged-by p s h e j f = record {
 pub judged-numbers : (p : passes.PassRules) (s : List ℕ) {v : Verdict} → 9 ≤ p.least → refusal s ≡ 0 → Judges (tree s) p → v ≡ verdict_of (rules.verdict s (p.part (tree s))) → Judged p.part s v
 judged-numbers p s h e j f = judged-by p s h e j (f ∙ sym (first_part p s h j))
 
-pub judged-admitted : (p : Pass) (s : List ℕ) {v : Verdict} → refusal s ≡ 0 → v ≡ verdict_by s (records_of p (tree s)) → Judged (records_of p) s v
-judged-admitted pass.Resolve s e f = judged-by passes.resolving s (omega arith) e (judges-resolve s e) f
-judged-admitted pass.Access s e f = judged-by passes.accessing s (omega arith) e (judges-access s e) f
-judged-admitted pass.Linear s e f = judged-by passes.linearity s (omega arith) e (judges-linear s e) f
+pub judged-admitted : (p : Pass) (s : List ℕ) {o : Option Offence} → refusal s ≡ 0 → o ≡ verdict_by s (records_of p (tree s)) → Judged (records_of p) s (Ok o)
+judged-admitted pass.Resolve s e f = judged-by passes.resolving s (omega arith) e (judges-resolve s e) (ap told f)
+judged-admitted pass.Access s e f = judged-by passes.accessing s (omega arith) e (judges-access s e) (ap told f)
+judged-admitted pass.Linear s e f = judged-by passes.linearity s (omega arith) e (judges-linear s e) (ap told f)
 
 -- what each pass lists is what `list_with` promises
 pub listed_by : {X : Type 0} (t : X → Tree) {p q : Pass} (most : ℕ) {o o' : List ℕ} {k : ℕ} → p ≡ q → most ≤ 2 ^ 38

@@ -1,7 +1,7 @@
 // The three passes on an admitted image: the records of each, the verdict by the first of them, the records of all in one list.
 #![tactic(auto)]
 
-ghost use Rattle.std.specs.Prelude.{◌≡◌, List, ℕ, ◌+◌, ◌*◌, ◌≤◌, ◌^◌, length, replicate};
+ghost use Rattle.std.specs.Prelude.{◌≡◌, Ok, List, ℕ, ◌+◌, ◌*◌, ◌≤◌, ◌^◌, length, replicate};
 ghost use Rattle.rules.specs.Vocabulary.{Rec};
 ghost use Rattle.rules.specs.Tree.{tree};
 ghost use Rattle.rules.specs.Resolve.{resolve};
@@ -18,21 +18,17 @@ use image::Image;
 use names::Words;
 use nodes::Marks;
 
-// What a pass answers: the image's refusal, acceptance, or the code, the place and its two span words.
-#[derive(Clone, Copy)]
-pub enum Verdict {
-    Image(usize),
-    Accepted,
-    Refused {
-        code: u16,
-        place: u16,
-        from: u32,
-        to: u32,
-    },
+// What a pass refuses an admitted image with: the code, the place and its two span words. A pass that accepts answers none.
+#[derive(Clone, Copy, PartialEq, Eq)]
+pub struct Offence {
+    pub code: u16,
+    pub place: u16,
+    pub from: u32,
+    pub to: u32,
 }
 
 // The passes, in the order that they run in.
-#[derive(Clone, Copy)]
+#[derive(Clone, Copy, PartialEq, Eq)]
 pub enum Pass {
     Resolve,
     Access,
@@ -63,31 +59,23 @@ pub fn list_of(pass: Pass, image: &[u8], head: Image, out: &mut [u16]) -> usize
     list_with(pass, nodes, words, &state, out)
 }
 
-fn wide(w: u16) -> usize
-    ensures { result ≡ w }
-{
-    w as usize
-}
-
 // The verdict, from the first record of a list that was written into four words.
-fn judge(image: &[u8], head: Image, out: &[u16], count: usize) -> Verdict
+fn judge(image: &[u8], head: Image, out: &[u16], count: usize) -> Option<Offence>
     requires { Admitted image.now head × (length out.now ≡ 4) }
     ensures { (e : ℕ → ℕ) (l : List Rec) → Laid e (replicate 4 0) 0 l out.now count → result ≡ verdict_by image.now l }
 {
     if count == 0 {
-        return Verdict::Accepted;
+        return None;
     }
     let code = out[0];
     let place = out[1];
-    let span = spans::of_place(image, head, wide(place));
-    let from = span.from;
-    let to = span.to;
-    Verdict::Refused {
+    let span = spans::of_place(image, head, usize::from(place));
+    Some(Offence {
         code,
         place,
-        from: from as u32,
-        to: to as u32,
-    }
+        from: span.from as u32,
+        to: span.to as u32,
+    })
 }
 
 // The verdict of a pass on an admitted image, whose words and state names were looked up before.
@@ -98,9 +86,9 @@ fn first_with(
     nodes: &[u8],
     words: Words,
     state: &Marks,
-) -> Verdict
+) -> Option<Offence>
     requires { LookedUp image.now head nodes.now words state.now }
-    ensures { Judged (records_of pass) image.now result }
+    ensures { Judged (records_of pass) image.now (Ok result) }
 {
     let mut out = [0u16; 4];
     let count = list_with(pass, nodes, words, state, &mut out);
@@ -108,9 +96,9 @@ fn first_with(
 }
 
 // The verdict of a pass on an admitted image.
-pub fn first_of(pass: Pass, image: &[u8], head: Image) -> Verdict
+pub fn first_of(pass: Pass, image: &[u8], head: Image) -> Option<Offence>
     requires { Admitted image.now head }
-    ensures { Judged (records_of pass) image.now result }
+    ensures { Judged (records_of pass) image.now (Ok result) }
 {
     let mut out = [0u16; 4];
     let count = list_of(pass, image, head, &mut out);
@@ -120,15 +108,15 @@ pub fn first_of(pass: Pass, image: &[u8], head: Image) -> Verdict
 // The verdicts of all passes.
 #[derive(Clone, Copy)]
 pub struct Answers {
-    pub resolve: Verdict,
-    pub access: Verdict,
-    pub linear: Verdict,
+    pub resolve: Option<Offence>,
+    pub access: Option<Offence>,
+    pub linear: Option<Offence>,
 }
 
 // All verdicts on an admitted image, with words and state names looked up once.
 pub fn answer_all(image: &[u8], head: Image) -> Answers
     requires { Admitted image.now head }
-    ensures { Judged resolve image.now result.resolve × Judged access image.now result.access × Judged linear image.now result.linear }
+    ensures { Judged resolve image.now (Ok result.resolve) × Judged access image.now (Ok result.access) × Judged linear image.now (Ok result.linear) }
 {
     let nodes = nodes::area(image, head);
     let words = names::find_words(image, head);

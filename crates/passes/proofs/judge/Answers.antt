@@ -6,4 +6,4 @@ pub returns-then-count-eq0 : goal.returns-then-count-eq0
 returns-then-count-eq0 c = λ _ l L. first_none c.args.image.now l L c.if-count-eq0.true
 
 pub returns : goal.returns
-returns c = λ _ l L. first_one c.args.image.now l L c.if-count-eq0.false c.wide.ensures c.of_place-span.ensures.0 c.of_place-span.ensures.1
+returns c = λ _ l L. first_one c.args.image.now l L c.if-count-eq0.false c.from.ensures c.of_place-span.ensures.0 c.of_place-span.ensures.1
