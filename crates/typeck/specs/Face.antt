@@ -1,30 +1,43 @@
 -- What the public functions answer: document 01's numbers for each case of an enum, the case that numbers name, and what is promised of
 -- an answer: the numbers of the rules, and no other case than they name. A pass's own answer is that of `passes`, passed on here.
-use Rattle.std.specs.Prelude.{ℕ, ◌≡◌, Bool, true, false, List, eqb, length}
+use Rattle.std.specs.Prelude.{ℕ, ◌≡◌, Option, None, Some, Result, Ok, Err, Bool, true, false, List, eqb, length}
 use Rattle.image.specs.Pick.{pick}
 use Rattle.rules.specs.Tree.{Tree}
 use Rattle.rules.specs.Vocabulary.{Rec}
 use Rattle.rules.specs.Answers as rules
 unfoldable pub use Rattle.rules.specs.Answers.{part_answer, part_words}
-pub use Rattle.passes.specs.Verdicts.{Stands, answer_of, verdict_of, Judged}
-use Rattle.typeck.specs.declared.Reply.{Reply}
-use Rattle.typeck.specs.declared.Reply.TheVariants as reply
-use Rattle.typeck.specs.declared.Listed.{Listed}
-use Rattle.typeck.specs.declared.Listed.TheVariants as listed
+use Rattle.image.specs.declared.Refusal.{Refusal}
+use Rattle.image.specs.Refusals.{number_of, refusal_of}
+use Rattle.passes.specs.declared.Offence.{Offence}
+use Rattle.passes.specs.declared.Answers.{Answers}
+pub use Rattle.passes.specs.Verdicts.{Verdict, Stands, answer_of, verdict_of, Judged}
+use Rattle.typeck.specs.declared.Unlisted.{Unlisted}
+use Rattle.typeck.specs.declared.Unlisted.TheVariants as unlisted
+
+-- the number of an image's refusal, 0 where it is admitted
+abbrev pub refused_as : Option Refusal → ℕ
+refused_as None = 0
+refused_as (Some r) = number_of r
+
+abbrev pub refusal_as : ℕ → Option Refusal
+refusal_as r = pick (eqb r 0) None (Some (refusal_of r))
+
+-- one of the verdicts that are given at once
+abbrev pub verdict_in : (Answers → Option Offence) → Result Answers Refusal → Verdict
+verdict_in one (Err r) = Err r
+verdict_in one (Ok a) = Ok (one a)
 
 -- A question about a name
 
-abbrev pub numbered : Reply → rules.NameReply
-numbered (reply.Image r) = rules.reply_refused r
-numbered reply.Yes = rules.replied true
-numbered reply.No = rules.replied false
+abbrev pub Reply : Type 0
+Reply = Result Bool Refusal
 
-abbrev pub yes_no : Bool → Reply
-yes_no true = reply.Yes
-yes_no false = reply.No
+abbrev pub numbered : Reply → rules.NameReply
+numbered (Err r) = rules.reply_refused (number_of r)
+numbered (Ok b) = rules.replied b
 
 abbrev pub reply_of : rules.NameReply → Reply
-reply_of a = pick (eqb a.number 0) (yes_no a.yes) (reply.Image a.number)
+reply_of a = pick (eqb a.number 0) (Ok a.yes) (Err (refusal_of a.number))
 
 abbrev pub Replied : (Tree → List ℕ → Bool) → List ℕ → List ℕ → Reply → Type 0
 Replied asked s w r = Stands numbered reply_of (rules.ask asked s w) r
@@ -36,12 +49,23 @@ one_of false = 0
 
 -- A list, with the lent words before and after
 
+abbrev pub Listed : Type 0
+Listed = Result ℕ Unlisted
+
+-- 1 to 8 the image's refusal, 9 where there is no room
+abbrev pub unlisted_by : Unlisted → ℕ
+unlisted_by (unlisted.Image r) = number_of r
+unlisted_by unlisted.Room = 9
+
+abbrev pub unlisted_of : ℕ → Unlisted
+unlisted_of r = pick (eqb r 9) unlisted.Room (unlisted.Image (refusal_of r))
+
 abbrev pub listing_of : Listed → rules.ListReply
-listing_of (listed.Refused r) = rules.list_refused r
-listing_of (listed.Records k) = rules.list_has k
+listing_of (Err r) = rules.list_refused (unlisted_by r)
+listing_of (Ok k) = rules.list_has k
 
 abbrev pub listed_of : rules.ListReply → Listed
-listed_of a = pick (eqb a.number 0) (listed.Records a.records) (listed.Refused a.number)
+listed_of a = pick (eqb a.number 0) (Ok a.records) (Err (unlisted_of a.number))
 
 abbrev pub ListedAll : List ℕ → List ℕ → Listed → List ℕ → Type 0
 ListedAll s words r words' = Stands listing_of listed_of (rules.list_answer s (length words)) r × (words' ≡ rules.list_buffer s words)

@@ -1,27 +1,28 @@
 -- `list` meets its contract: admission, room for all records, then the records.
 use native.Mathlib.Omega.{arith}
-use mathlib.Core.Path.{sym, ◌∙◌}
+use mathlib.Core.Path.{sym}
+use Rattle.std.proofs.lemmas.Result.{err_from_is_err_and}
 use Rattle.nodes.proofs.Admission.{admitted-by}
 use Rattle.typeck.proofs.Laws.{all-refused, all_short, all_listed}
 use Rattle.typeck.proofs.list.Goals as goal
 
-pub count_all-asked-requires : goal.count_all-asked-requires
-count_all-asked-requires c = admitted-by _ _ (sym c.admit.ensures ∙ c.in-Admitted.is)
+pub count_all-requires : goal.count_all-requires
+count_all-requires c = admitted-by _ _ (sym c.in_ok-head.ensures)
 
-pub fill-count-requires : goal.fill-count-requires
-fill-count-requires c = let n = c.count_all-asked.ensures.0 in let h = c.if-size-asked.false in (admitted-by _ _ (sym c.admit.ensures ∙ c.in-Admitted.is), omega arith)
+pub fill-requires : goal.fill-requires
+fill-requires c = let n = c.count_all.ensures.0 in (admitted-by _ _ (sym c.in_ok-head.ensures), omega arith)
 
-pub returns-then-size-asked : goal.returns-then-size-asked
-returns-then-size-asked c =
-    let n = c.count_all-asked.ensures.0 in
-    let h = c.if-size-asked.true in
-    all_short c.args.image.now c.args.words.now (admitted-by _ _ (sym c.admit.ensures ∙ c.in-Admitted.is)).admitted (omega arith)
+pub returns-in_err-head : goal.returns-in_err-head
+returns-in_err-head c = let p = err_from_is_err_and c.from_residual.result c.from_residual.ensures.1 in rw (p.1, p.2) (all-refused c.args.image.now c.args.words.now _ (sym c.in_err-head.ensures))
 
-pub returns-in-Refused : goal.returns-in-Refused
-returns-in-Refused c = all-refused c.args.image.now c.args.words.now _ (sym c.admit.ensures ∙ c.in-Refused.is)
+pub returns-then-words-count_all : goal.returns-then-words-count_all
+returns-then-words-count_all c =
+    let n = c.count_all.ensures.0 in
+    let h = c.if-words-count_all.true in
+    all_short c.args.image.now c.args.words.now (admitted-by _ _ (sym c.in_ok-head.ensures)).admitted (omega arith)
 
-pub returns-else-size-asked : goal.returns-else-size-asked
-returns-else-size-asked c =
-    let n = c.count_all-asked.ensures.0 in
-    let h = c.if-size-asked.false in
-    all_listed c.args.image.now c.args.words.now (admitted-by _ _ (sym c.admit.ensures ∙ c.in-Admitted.is)).admitted (omega arith) c.fill-count.ensures
+pub returns : goal.returns
+returns c =
+    let n = c.count_all.ensures.0 in
+    let h = c.if-words-count_all.false in
+    all_listed c.args.image.now c.args.words.now (admitted-by _ _ (sym c.in_ok-head.ensures)).admitted (omega arith) c.fill.ensures
