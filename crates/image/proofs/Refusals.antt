@@ -1,5 +1,5 @@
 -- The refusals and their numbers: each number from 1 to 8 is that of its refusal.
-use Prim.Native.Nat.{ℕ, ◌≤◌}
+use Prim.Native.Nat.{ℕ, ◌<◌, ◌≤◌}
 use mathlib.Core.Path.{◌≡◌, refl}
 use mathlib.Core.Bool.{Bool, true, false}
 use native.Mathlib.Omega.{arith}
@@ -47,3 +47,13 @@ positive Names e = absurd (omega arith)
 positive Tree e = absurd (omega arith)
 positive Depth e = absurd (omega arith)
 positive Unused e = absurd (omega arith)
+
+pub below-nine : (r : Refusal) → number_of r < 9
+below-nine Length = omega arith
+below-nine Version = omega arith
+below-nine Counts = omega arith
+below-nine Layout = omega arith
+below-nine Names = omega arith
+below-nine Tree = omega arith
+below-nine Depth = omega arith
+below-nine Unused = omega arith

@@ -14,7 +14,7 @@ ghost use Rattle.why.specs.Face.{explained_by};
 ghost use Rattle.typeck.specs.Face.{answer_of, numbered, listing_of, part_answer, part_words};
 ghost use Rattle.isonkaypu.specs.Plain.{Gives, row, Says, Tells, Counts};
 
-use typeck::{Listed, Reply, Verdict};
+use typeck::{Refusal, Unlisted, Verdict};
 use why::Explained;
 
 // The number of the image's refusal, 0 where it is admitted.
@@ -22,36 +22,27 @@ use why::Explained;
 pub extern "C" fn isonkaypu_refusal(image: &[u8]) -> usize
     ensures { result ≡ refusal image.now }
 {
-    typeck::refused(image)
+    match typeck::refused(image) {
+        None => 0,
+        Some(refusal) => refusal.number(),
+    }
 }
 
 // A verdict's number, with its place and span words.
 fn give(v: Verdict, place: &mut u16, from: &mut u32, to: &mut u32) -> usize
     ensures { Gives (answer_of v) result place.new from.new to.new }
 {
+    *place = 0;
+    *from = 0;
+    *to = 0;
     match v {
-        Verdict::Image(r) => {
-            *place = 0;
-            *from = 0;
-            *to = 0;
-            r
-        }
-        Verdict::Accepted => {
-            *place = 0;
-            *from = 0;
-            *to = 0;
-            0
-        }
-        Verdict::Refused {
-            code,
-            place: p,
-            from: f,
-            to: t,
-        } => {
-            *place = p;
-            *from = f;
-            *to = t;
-            code as usize
+        Err(refusal) => refusal.number(),
+        Ok(None) => 0,
+        Ok(Some(offence)) => {
+            *place = offence.place;
+            *from = offence.from;
+            *to = offence.to;
+            usize::from(offence.code)
         }
     }
 }
@@ -112,20 +103,15 @@ fn note(v: Verdict, numbers: &mut [usize; 12], at: usize)
     ensures { numbers.new ≡ sets numbers.old at (row (answer_of v)) }
 {
     match v {
-        Verdict::Image(r) => store(numbers, at, r, 0, 0, 0),
-        Verdict::Accepted => store(numbers, at, 0, 0, 0, 0),
-        Verdict::Refused {
-            code,
-            place,
-            from,
-            to,
-        } => store(
+        Err(refusal) => store(numbers, at, refusal.number(), 0, 0, 0),
+        Ok(None) => store(numbers, at, 0, 0, 0, 0),
+        Ok(Some(offence)) => store(
             numbers,
             at,
-            code as usize,
-            place as usize,
-            from as usize,
-            to as usize,
+            usize::from(offence.code),
+            usize::from(offence.place),
+            offence.from as usize,
+            offence.to as usize,
         ),
     }
 }
@@ -135,30 +121,31 @@ fn note(v: Verdict, numbers: &mut [usize; 12], at: usize)
 pub extern "C" fn isonkaypu_verdicts(image: &[u8], numbers: &mut [usize; 12])
     ensures { numbers.new ≡ sets numbers.old 0 (row (pass_answer resolve image.now) ++ row (pass_answer access image.now) ++ row (pass_answer linear image.now)) }
 {
-    let answers = typeck::verdicts(image);
-    let resolve = answers.resolve;
-    let access = answers.access;
-    let linear = answers.linear;
-    note(resolve, numbers, 0);
-    note(access, numbers, 4);
-    note(linear, numbers, 8);
+    match typeck::verdicts(image) {
+        Err(refusal) => {
+            note(Err(refusal), numbers, 0);
+            note(Err(refusal), numbers, 4);
+            note(Err(refusal), numbers, 8);
+        }
+        Ok(answers) => {
+            note(Ok(answers.resolve), numbers, 0);
+            note(Ok(answers.access), numbers, 4);
+            note(Ok(answers.linear), numbers, 8);
+        }
+    }
 }
 
 // A reply's number, and 1 for yes, 0 for no.
-fn say(v: Reply, yes: &mut u8) -> usize
+fn say(v: Result<bool, Refusal>, yes: &mut u8) -> usize
     ensures { Says (numbered v) result yes.new }
 {
     match v {
-        Reply::Image(r) => {
+        Err(refusal) => {
             *yes = 0;
-            r
+            refusal.number()
         }
-        Reply::Yes => {
-            *yes = 1;
-            0
-        }
-        Reply::No => {
-            *yes = 0;
+        Ok(said) => {
+            *yes = u8::from(said);
             0
         }
     }
@@ -189,16 +176,16 @@ pub extern "C" fn isonkaypu_is_known_asset(image: &[u8], name: &[u8], yes: &mut 
 }
 
 // A list's number, and how many records it has.
-fn tell(v: Listed, count: &mut usize) -> usize
+fn tell(v: Result<usize, Unlisted>, count: &mut usize) -> usize
     ensures { Tells (listing_of v) result count.new }
 {
     match v {
-        Listed::Refused(r) => {
+        Err(unlisted) => {
             *count = 0;
-            r
+            unlisted.number()
         }
-        Listed::Records(k) => {
-            *count = k;
+        Ok(records) => {
+            *count = records;
             0
         }
     }
@@ -245,12 +232,12 @@ fn explain(v: Explained, count: &mut usize) -> usize
     ensures { Counts (explained_by v) result count.new }
 {
     match v {
-        Explained::Refused(r) => {
+        Err(untold) => {
             *count = 0;
-            r
+            untold.number()
         }
-        Explained::Words(k) => {
-            *count = k;
+        Ok(words) => {
+            *count = words;
             0
         }
     }

@@ -9,7 +9,9 @@ use lib.Dec.{ltb}
 use lib.ListN.{length, length-append, get_or}
 use Rattle.image.specs.Pick.{pick}
 use Rattle.image.specs.Admit.{refusal, admission_of}
-use Rattle.image.specs.declared.Admission.TheVariants.{Refused}
+use Rattle.std.specs.Prelude.{Option, Ok, Err}
+use Rattle.image.specs.declared.Refusal.{Refusal}
+use Rattle.image.specs.Refusals.{number_of}
 use Rattle.image.proofs.Verdict.{refused-is}
 use Rattle.rules.specs.Sweep.{run}
 use Rattle.rules.specs.Tree.{tree}
@@ -22,19 +24,22 @@ use Rattle.rules.specs.Linear.{linear}
 use Rattle.rules.specs.Answers.{Answer, pass_answer, span_from, span_to, words, ListReply, list_refused, list_has, list_answer, list_buffer}
 use Rattle.rules.proofs.Answers.{list-short, list-listed, buffer-listed, buffer-long, laid-written}
 use Rattle.records.proofs.Sweep.{run_none, run-next, run-split}
-use Rattle.typeck.specs.declared.Listed.{Listed}
-use Rattle.typeck.specs.declared.Listed.TheVariants as the
-use Rattle.passes.specs.declared.Verdict.{Verdict}
-use Rattle.typeck.specs.Face.{Stands, answer_of, listing_of, listed_of}
+use Rattle.passes.specs.declared.Offence.{Offence}
+use Rattle.typeck.specs.declared.Unlisted.{Unlisted}
+use Rattle.typeck.specs.Face.{Stands, Listed, answer_of, unlisted_by, listing_of, listed_of}
+use Rattle.typeck.proofs.Laws.{unlisted-positive}
 use Rattle.nodes.proofs.Admission.{refused-number}
 use Rattle.lines.specs.Line.{digits, rest, Printed}
 use Rattle.lines.proofs.Laws.{wrote-join, wrote_as, few-five, few-ten, rest-length}
 use Rattle.render.specs.Report.{pass_line, record_line, record_lines, list_lines, report_text, line_of, line_at}
 
 -- the line of a pass
-pub pass-is : (name : List ℕ) {v w : Verdict} {o o₁ o₂ : List ℕ} {at k r : ℕ} → v ≡ w → length name < 2 ^ 10 → Printed o at name o₁ k
-    → (Printed o₁ k (rest ((answer_of w).number ∷ (answer_of w).place ∷ (answer_of w).from ∷ (answer_of w).to ∷ [])) o₂ r × (r ≤ k + 85))
-    → Printed o at (pass_line name (answer_of v)) o₂ r × (r ≤ at + 2 ^ 11)
+abbrev pub told : Option Offence → Answer
+told v = answer_of (Ok v)
+
+pub pass-is : (name : List ℕ) {v w : Option Offence} {o o₁ o₂ : List ℕ} {at k r : ℕ} → v ≡ w → length name < 2 ^ 10 → Printed o at name o₁ k
+    → (Printed o₁ k (rest ((told w).number ∷ (told w).place ∷ (told w).from ∷ (told w).to ∷ [])) o₂ r × (r ≤ k + 85))
+    → Printed o at (pass_line name (told v)) o₂ r × (r ≤ at + 2 ^ 11)
 pass-is name e h W R = let n = W.count in let b = R.1 in (rw e (wrote-join W R.0), omega arith)
 
 -- a word, and the one number after it
@@ -114,29 +119,18 @@ module _ (s o w : List ℕ) (count : ℕ) (e : refusal s ≡ 0) (a : list_has co
       ap (λ (t : List ℕ). bytes "list" ++ (rest (count ∷ []) ++ t)) (ap (run (line_at s w) 0) m.0 ∙ lines_from s w (offences (tree s)) 0 at)
       ∙ ap (list_lines s) (a ∙ ap (list_answer s) f)
 
-abbrev tag : Listed → ℕ
-tag (the.Refused r) = 1
-tag (the.Records k) = 0
-
-not-zero : {n : ListReply} (r : ℕ) → Stands listing_of listed_of n (the.Refused r) → r ≡ 0 → ⊥
-not-zero {n} r p z =
-    let e : the.Refused r ≡ listed_of (list_refused r) = p.case ∙ ap listed_of (sym p.numbers) in
-    let f : the.Refused r ≡ the.Records 0 = e ∙ ap (λ (b : Bool). pick b (the.Records 0) (the.Refused r)) (eq-eqb r 0 z) in
-    let g : ◌≡◌ {A = ℕ} 1 0 = ap tag f in
-    absurd (omega arith)
-
-pub lines-refused : (s o : List ℕ) (v : Listed) (r size : ℕ) → length o ≡ size → v ≡ the.Refused r → Stands listing_of listed_of (list_answer s (length o)) v
-    → bytes "list refused" ++ rest (r ∷ []) ≡ list_lines s (list_answer s size)
+pub lines-refused : (s o : List ℕ) (v : Listed) (r : Unlisted) (size : ℕ) → length o ≡ size → v ≡ Err r → Stands listing_of listed_of (list_answer s (length o)) v
+    → bytes "list refused" ++ rest (unlisted_by r ∷ []) ≡ list_lines s (list_answer s size)
 lines-refused s o v r size f e q =
-    let p : Stands listing_of listed_of (list_answer s (length o)) (the.Refused r) = rw e at q in
-    sym (ap (λ (b : Bool). pick b (bytes "list" ++ (rest (0 ∷ []) ++ record_lines s (offences (tree s)))) (bytes "list refused" ++ rest (r ∷ []))) (ne_eqb r 0 (not-zero r p)))
+    let p : Stands listing_of listed_of (list_answer s (length o)) (Err r) = rw e at q in
+    sym (ap (λ (b : Bool). pick b (bytes "list" ++ (rest (0 ∷ []) ++ record_lines s (offences (tree s)))) (bytes "list refused" ++ rest (unlisted_by r ∷ []))) (ne_eqb (unlisted_by r) 0 (unlisted-positive r)))
     ∙ ap (list_lines s) (p.numbers ∙ ap (list_answer s) f)
 
 -- the whole report
-pub report-refused : (s : List ℕ) (k : ℕ) → admission_of (refusal s) s ≡ Refused k → bytes "image" ++ rest (k ∷ []) ≡ report_text s
+pub report-refused : (s : List ℕ) (k : Refusal) → admission_of (refusal s) s ≡ Err k → bytes "image" ++ rest (number_of k ∷ []) ≡ report_text s
 unfolding report_text
 report-refused s k e =
-    let n = ne_eqb (refusal s) 0 (refused-is (refusal s) s k e) in
+    let n = ne_eqb (refusal s) 0 (refused-is (refusal s) s k e).0 in
     rw n (ap (λ (i : ℕ). bytes "image" ++ rest (i ∷ [])) (refused-number s k e))
 
 pub report-admitted : (s : List ℕ) {a b c : Answer} → refusal s ≡ 0 → a ≡ pass_answer resolve s → b ≡ pass_answer access s → c ≡ pass_answer linear s

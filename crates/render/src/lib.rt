@@ -1,7 +1,7 @@
 // The report of document 01 as text, written into a lent buffer. What does not fit is not written; all of it is counted.
 #![tactic(auto)]
 
-ghost use Rattle.std.specs.Prelude.{◌≡◌, ◌+◌, ◌*◌, ◌<◌, ◌≤◌, ◌^◌, length};
+ghost use Rattle.std.specs.Prelude.{◌≡◌, Ok, ◌+◌, ◌*◌, ◌<◌, ◌≤◌, ◌^◌, length};
 ghost use Rattle.rules.specs.Sweep.{run};
 ghost use Rattle.rules.specs.Answers.{list_answer};
 ghost use Rattle.nodes.specs.Shown.{Admitted};
@@ -9,28 +9,22 @@ ghost use Rattle.typeck.specs.Face.{answer_of};
 ghost use Rattle.lines.specs.Line.{Printed};
 ghost use Rattle.render.specs.Report.{pass_line, list_lines, report_text, line_at, line_of};
 
-use image::{Admission, Image};
-use typeck::{Listed, Verdict};
+use image::Image;
+use passes::Offence;
 
 // The line of a pass.
-fn pass_line(name: &[u8], v: Verdict, out: &mut [u8], at: usize) -> usize
+fn pass_line(name: &[u8], verdict: Option<Offence>, out: &mut [u8], at: usize) -> usize
     requires { (at < 2 ^ 50) × (length name.now < 2 ^ 10) }
-    ensures { Printed out.old at (pass_line name.now (answer_of v)) out.new result × (result ≤ at + 2 ^ 11) }
+    ensures { Printed out.old at (pass_line name.now (answer_of (Ok verdict))) out.new result × (result ≤ at + 2 ^ 11) }
 {
     let k = lines::text(name, out, at);
-    match v {
-        Verdict::Image(r) => lines::rest_four(r, 0, 0, 0, out, k),
-        Verdict::Accepted => lines::rest_four(0, 0, 0, 0, out, k),
-        Verdict::Refused {
-            code,
-            place,
-            from,
-            to,
-        } => lines::rest_four(
-            code as usize,
-            place as usize,
-            from as usize,
-            to as usize,
+    match verdict {
+        None => lines::rest_four(0, 0, 0, 0, out, k),
+        Some(offence) => lines::rest_four(
+            usize::from(offence.code),
+            usize::from(offence.place),
+            offence.from as usize,
+            offence.to as usize,
             out,
             k,
         ),
@@ -59,12 +53,6 @@ fn record_line(
     lines::rest_four(related, entry, from, to, out, k)
 }
 
-fn wide(w: u16) -> usize
-    ensures { (result ≡ w) × (result < 65536) }
-{
-    w as usize
-}
-
 // The lines of the first `count` records of a list.
 fn record_lines(
     image: &[u8],
@@ -77,15 +65,13 @@ fn record_lines(
     requires { Admitted image.now head × (4 * count ≤ length words.now) × (length words.now ≤ 2 ^ 16) × (at < 2 ^ 52) }
     ensures { Printed out.old at (run (line_at image.now words.now) 0 count) out.new result × (result ≤ at + 46 * count) }
 {
-    let mut i = 0;
     let mut k = at;
-    while i < count {
-        let code = wide(words[4 * i]);
-        let place = wide(words[4 * i + 1]);
-        let related = wide(words[4 * i + 2]);
-        let entry = wide(words[4 * i + 3]);
+    for i in 0..count {
+        let code = usize::from(words[4 * i]);
+        let place = usize::from(words[4 * i + 1]);
+        let related = usize::from(words[4 * i + 2]);
+        let entry = usize::from(words[4 * i + 3]);
         k = record_line(image, head, code, place, related, entry, out, k);
-        i += 1;
     }
     k
 }
@@ -97,11 +83,11 @@ fn list_lines(image: &[u8], head: Image, out: &mut [u8], at: usize) -> usize
 {
     let mut words = [0u16; 32768];
     match typeck::list(image, &mut words) {
-        Listed::Refused(r) => {
+        Err(unlisted) => {
             let k = lines::text(b"list refused", out, at);
-            lines::rest_one(r, out, k)
+            lines::rest_one(unlisted.number(), out, k)
         }
-        Listed::Records(count) => {
+        Ok(count) => {
             let j = lines::text(b"list", out, at);
             let k = lines::rest_one(count, out, j);
             record_lines(image, head, &words, count, out, k)
@@ -115,12 +101,12 @@ pub fn render(image: &[u8], out: &mut [u8]) -> usize
     ensures upper_bound { result ≤ 450000 }
 {
     match admission::admit(image) {
-        Admission::Refused(r) => {
+        Err(refusal) => {
             let k = lines::text(b"image", out, 0);
-            lines::rest_one(r, out, k)
+            lines::rest_one(refusal.number(), out, k)
         }
-        Admission::Admitted(head) => {
-            let answers = typeck::verdicts(image);
+        Ok(head) => {
+            let answers = passes::answer_all(image, head);
             let resolve = answers.resolve;
             let access = answers.access;
             let linear = answers.linear;

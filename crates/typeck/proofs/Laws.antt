@@ -11,9 +11,8 @@ use Rattle.image.specs.declared.Image.{Image}
 use Rattle.std.specs.Result.{result_err}
 use Rattle.std.specs.Prelude.{Option, Some, Result, Ok, Err}
 use Rattle.image.specs.declared.Refusal.{Refusal}
-use Rattle.image.specs.declared.Refusal.TheVariants.{Length, Version, Counts, Layout, Names, Tree as Tree6, Depth, Unused}
 use Rattle.image.specs.Refusals.{number_of, refusal_of}
-use Rattle.image.proofs.Refusals.{known, positive}
+use Rattle.image.proofs.Refusals.{known, positive, below-nine}
 use Rattle.image.proofs.Verdict.{refused-is}
 use Rattle.rules.specs.Tree.{Tree, tree}
 use Rattle.rules.specs.Vocabulary.{Rec}
@@ -63,22 +62,12 @@ module _ (question : Tree → List ℕ → Bool) (s w : List ℕ) where
 
 -- Lists
 
-below-nine : (r : Refusal) → number_of r < 9
-below-nine Length = omega arith
-below-nine Version = omega arith
-below-nine Counts = omega arith
-below-nine Layout = omega arith
-below-nine Names = omega arith
-below-nine Tree6 = omega arith
-below-nine Depth = omega arith
-below-nine Unused = omega arith
-
 -- the refusal of a number is the one that has it
 unlisted-known : (r : Unlisted) → unlisted_of (unlisted_by r) ≡ r
 unlisted-known (unlisted.Image k) = simp (ne_eqb (number_of k) 9 (λ e. let h = below-nine k in omega arith), known k)
 unlisted-known unlisted.Room = refl
 
-unlisted-positive : (r : Unlisted) → unlisted_by r ≡ 0 → ⊥
+pub unlisted-positive : (r : Unlisted) → unlisted_by r ≡ 0 → ⊥
 unlisted-positive (unlisted.Image k) e = positive k e
 unlisted-positive unlisted.Room e = omega arith
 

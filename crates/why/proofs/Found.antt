@@ -7,7 +7,10 @@ use native.Mathlib.Omega.{arith}
 use borrow.Author.Tests.{ne_eqb}
 use lib.ListN.{length}
 use Rattle.image.specs.Admit.{refusal, admission_of}
-use Rattle.image.specs.declared.Admission.TheVariants as admission
+use Rattle.std.specs.Prelude.{Ok, Err}
+use Rattle.image.specs.declared.Refusal.{Refusal}
+use Rattle.image.specs.Refusals.{number_of}
+use Rattle.image.proofs.Refusals.{known, positive, below-nine}
 use Rattle.image.proofs.Verdict.{refused-is}
 use Rattle.rules.specs.Tree.{Tree, tree}
 use Rattle.rules.specs.Words.{Q_Asset}
@@ -27,10 +30,11 @@ use Rattle.reasons.specs.Answer.{why_told, why_answer}
 use Rattle.reasons.specs.Demands.{NoLot, TellsNothing}
 use Rattle.reasons.proofs.Rows.{holds-place, held_by}
 use Rattle.reasons.proofs.Found.{image-refused, no_lot, too_short, all_told}
-use Rattle.why.specs.declared.Explained.TheVariants.{Refused, Words}
+use Rattle.why.specs.declared.Untold.{Untold}
+use Rattle.why.specs.declared.Untold.TheVariants as untold
 use Rattle.lot_words.specs.Told.{Wrote, Rowed, row_node}
 use Rattle.why.specs.Sought.{EntryAt, RowAt}
-use Rattle.why.specs.Face.{Explains}
+use Rattle.why.specs.Face.{Explained, untold_by, untold_of, Explains}
 
 -- Which row
 
@@ -80,26 +84,40 @@ module _ {nodes : List ℕ} {place e : ℕ} (W : View nodes 0) (A : EntryAt W pl
 
 -- What is answered
 
-module _ (s o : List ℕ) (p : ℕ) where
-  pub answer-refused : (k : ℕ) → (k ≡ 0 → ⊥) → TellsNothing s p o k → Explains s p o (Refused k) o
-  answer-refused k n u = (record { numbers = sym u.0; case = rw u.0 (simp (ne_eqb k 0 n)) }, sym u.1)
+-- the case of a number is the one that has it
+untold-known : (r : Untold) → untold_of (untold_by r) ≡ r
+untold-known (untold.Image k) = let h = below-nine k in simp (ne_eqb (number_of k) 13 (λ e. omega arith), ne_eqb (number_of k) 10 (λ e. omega arith), known k)
+untold-known untold.NoLot = refl
+untold-known untold.Room = refl
 
-  pub answer-image : (k : ℕ) → admission_of (refusal s) s ≡ admission.Refused k → Explains s p o (Refused k) o
+untold-positive : (r : Untold) → untold_by r ≡ 0 → ⊥
+untold-positive (untold.Image k) e = positive k e
+untold-positive untold.NoLot e = omega arith
+untold-positive untold.Room e = omega arith
+
+abbrev unexplained : Untold → Explained
+unexplained r = Err r
+
+module _ (s o : List ℕ) (p : ℕ) where
+  pub answer-refused : (k : Untold) → TellsNothing s p o (untold_by k) → Explains s p o (Err k) o
+  answer-refused k u = (record { numbers = sym u.0; case = rw u.0 (simp (ne_eqb (untold_by k) 0 (untold-positive k)) (ap unexplained (sym (untold-known k)))) }, sym u.1)
+
+  pub answer-image : (k : Refusal) → admission_of (refusal s) s ≡ Err k → Explains s p o (Err (untold.Image k)) o
   answer-image k e =
-      let n = refused-is (refusal s) s k e in
+      let n = (refused-is (refusal s) s k e).0 in
       let d = refused-number s k e in
-      answer-refused k (λ z. n (sym d ∙ z)) (rw d (image-refused s o p n))
+      answer-refused (untold.Image k) (rw d (image-refused s o p n))
 
   module _ (z : refusal s ≡ 0) where
-    pub answer-no-lot : NoLot (tree s) p → Explains s p o (Refused 13) o
-    answer-no-lot n = answer-refused 13 (λ e. omega arith) (no_lot s o p z n)
+    pub answer-no-lot : NoLot (tree s) p → Explains s p o (Err untold.NoLot) o
+    answer-no-lot n = answer-refused untold.NoLot (no_lot s o p z n)
 
     -- the words of the row were counted; the buffer is too short for them, or they were written
     module _ (e x : ℕ) (r : TrackedAt (tree s) p e x) {none none' : List ℕ} {asked : ℕ} (q : Wrote none 0 (reasons (tree s) e x) none' asked) where
-      pub answer-short : length o < asked → Explains s p o (Refused 10) o
-      answer-short l = let c = q.count in answer-refused 10 (λ d. omega arith) (too_short s o p z e x r (omega arith))
+      pub answer-short : length o < asked → Explains s p o (Err untold.Room) o
+      answer-short l = let c = q.count in answer-refused untold.Room (too_short s o p z e x r (omega arith))
 
-      pub answer-told : asked ≤ length o → {o' : List ℕ} {k : ℕ} → Wrote o 0 (reasons (tree s) e x) o' k → Explains s p o (Words k) o'
+      pub answer-told : asked ≤ length o → {o' : List ℕ} {k : ℕ} → Wrote o 0 (reasons (tree s) e x) o' k → Explains s p o (Ok k) o'
       answer-told l {o'} {k} w =
           let c = q.count in
           let d = w.count in

@@ -8,19 +8,45 @@ ghost use Rattle.linear.specs.Seen.{LookedWords};
 ghost use Rattle.reasons.specs.Reasons.{TrackedAt};
 ghost use Rattle.lot_words.specs.Told.{Rowed, row_node};
 ghost use Rattle.why.specs.Sought.{EntryAt, RowAt};
-ghost use Rattle.why.specs.Face.{Explains};
+ghost use Rattle.why.specs.declared.Untold.TheVariants.{Image};
+ghost use Rattle.why.specs.Face.{Explains, untold_by};
 
-use image::{Admission, Image};
+pub use image::Refusal;
+use image::Image;
 use linear_tracked::Cells;
 use nodes::{Cursor, ENTRY, Marks};
 use places::Places;
 
-// What is answered: the refusal, or how many words there are.
-#[derive(Clone, Copy)]
-pub enum Explained {
-    Refused(usize),
-    Words(usize),
+// Why there are no words: the image is refused, no lot stands at the place, refusal 13, or the buffer is too short, refusal 10.
+#[derive(Clone, Copy, PartialEq, Eq)]
+pub enum Untold {
+    Image(Refusal),
+    NoLot,
+    Room,
 }
+
+impl Untold {
+    pub fn number(self) -> usize
+        ensures { result ≡ untold_by self }
+    {
+        match self {
+            Untold::Image(refusal) => refusal.number(),
+            Untold::NoLot => 13,
+            Untold::Room => 10,
+        }
+    }
+}
+
+impl From<Refusal> for Untold {
+    ghost from_gives = { λ refusal result. result ≡ Image refusal };
+
+    fn from(refusal: Refusal) -> Untold {
+        Untold::Image(refusal)
+    }
+}
+
+// What is answered: how many words there are.
+pub type Explained = Result<usize, Untold>;
 
 // What is answered of a row: 10 where the buffer is too short, and then nothing is written.
 fn answer_row(
@@ -40,9 +66,9 @@ fn answer_row(
     let mut none = [0u16; 0];
     let asked = lot_words::tell_row(asset, nodes, entry, row, reader, first, last, &mut none);
     if size < asked {
-        return Explained::Refused(10);
+        return Err(Untold::Room);
     }
-    Explained::Words(lot_words::tell_row(asset, nodes, entry, row, reader, first, last, out))
+    Ok(lot_words::tell_row(asset, nodes, entry, row, reader, first, last, out))
 }
 
 fn wide(x: u16) -> usize
@@ -95,7 +121,7 @@ fn answer_entry(
     );
     let row = row_at(tracked.rows, &places, place);
     if row == 0 {
-        return Explained::Refused(13);
+        return Err(Untold::NoLot);
     }
     let mut reader = [false; Image::NAMES];
     linear_occurrences::mark_readers(words, &mut reader);
@@ -145,7 +171,7 @@ fn answer(image: &[u8], head: Image, place: usize, out: &mut [u16]) -> Explained
     let nodes = nodes::area(image, head);
     let entry = entry_at(nodes, place);
     if entry == 0 {
-        return Explained::Refused(13);
+        return Err(Untold::NoLot);
     }
     let words = names::find_words(image, head);
     answer_entry(words, nodes, entry, place, out)
@@ -155,8 +181,6 @@ fn answer(image: &[u8], head: Image, place: usize, out: &mut [u16]) -> Explained
 pub fn why(image: &[u8], place: usize, words: &mut [u16]) -> Explained
     ensures { Explains image.now place words.old result words.new }
 {
-    match admission::admit(image) {
-        Admission::Refused(r) => Explained::Refused(r),
-        Admission::Admitted(head) => answer(image, head, place, words),
-    }
+    let head = admission::admit(image)?;
+    answer(image, head, place, words)
 }

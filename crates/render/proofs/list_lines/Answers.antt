@@ -19,7 +19,7 @@ pub record_lines-requires : goal.record_lines-requires
 record_lines-requires c =
     let p = c.requires in
     let L = c.list.ensures in
-    let f = records-fit c.args.image.now (replicate 32768 0) _ _ p.0.admitted (sym (ap listing_of c.in-Records.is) ∙ L.0.numbers) L.1 in
+    let f = records-fit c.args.image.now (replicate 32768 0) _ _ p.0.admitted (sym (ap listing_of c.in-Ok.is) ∙ L.0.numbers) L.1 in
     let a = f.0 in
     let b = f.1 in
     let l = length-replicate {A = ℕ} 32768 0 in
@@ -28,20 +28,20 @@ record_lines-requires c =
     let q = p.1 in
     (p.0, omega arith, omega arith, omega arith)
 
-pub returns-in-Refused : goal.returns-in-Refused
+pub returns-in-Err : goal.returns-in-Err
 unfolding bytes
-returns-in-Refused c =
+returns-in-Err c =
     line-few 437000 (omega arith)
-    (lines-refused c.args.image.now (replicate 32768 0) _ _ 32768 (length-replicate {A = ℕ} 32768 0) c.in-Refused.is c.list.ensures.0)
-    c.text-k.ensures c.rest_one.ensures
+    (lines-refused c.args.image.now (replicate 32768 0) _ _ 32768 (length-replicate {A = ℕ} 32768 0) c.in-Err.is c.list.ensures.0)
+    c.text-k.ensures (rw c.number.ensures at c.rest_one.ensures)
 
-pub returns-in-Records : goal.returns-in-Records
+pub returns-in-Ok : goal.returns-in-Ok
 unfolding bytes
-returns-in-Records c =
+returns-in-Ok c =
     let s = c.args.image.now in
     let e = c.requires.0.admitted in
     let L = c.list.ensures in
-    let a = sym (ap listing_of c.in-Records.is) ∙ L.0.numbers in
+    let a = sym (ap listing_of c.in-Ok.is) ∙ L.0.numbers in
     let f = records-fit s (replicate 32768 0) _ _ e a L.1 in
     let x = f.0 in
     let y = f.1 in

@@ -6,17 +6,11 @@ use Rattle.render.proofs.pass_line.Goals as goal
 pub rest_four-requires : goal.rest_four-requires
 rest_four-requires c = let w = c.text-k.ensures.count in let p = c.requires.1 in omega arith
 
-pub rest_four-requires-in-Accepted : goal.rest_four-requires-in-Accepted
-rest_four-requires-in-Accepted c = let w = c.text-k.ensures.count in let p = c.requires.1 in omega arith
+pub rest_four-requires-in-Some : goal.rest_four-requires-in-Some
+rest_four-requires-in-Some c = let w = c.text-k.ensures.count in let p = c.requires.1 in omega arith
 
-pub rest_four-requires-in-Refused : goal.rest_four-requires-in-Refused
-rest_four-requires-in-Refused c = let w = c.text-k.ensures.count in let p = c.requires.1 in omega arith
+pub returns-in-None : goal.returns-in-None
+returns-in-None c = pass-is c.args.name.now c.in-None.is c.requires.1 c.text-k.ensures c.rest_four.ensures
 
-pub returns-in-Image : goal.returns-in-Image
-returns-in-Image c = pass-is c.args.name.now c.in-Image.is c.requires.1 c.text-k.ensures c.rest_four.ensures
-
-pub returns-in-Accepted : goal.returns-in-Accepted
-returns-in-Accepted c = pass-is c.args.name.now c.in-Accepted.is c.requires.1 c.text-k.ensures c.rest_four-in-Accepted.ensures
-
-pub returns-in-Refused : goal.returns-in-Refused
-returns-in-Refused c = pass-is c.args.name.now c.in-Refused.is c.requires.1 c.text-k.ensures c.rest_four-in-Refused.ensures
+pub returns-in-Some : goal.returns-in-Some
+returns-in-Some c = pass-is c.args.name.now c.in-Some.is c.requires.1 c.text-k.ensures (rw (c.from.ensures, c.from-in-Some.ensures) at c.rest_four-in-Some.ensures)

@@ -20,7 +20,7 @@ record_line-k-requires c =
     let d = p.1 in
     let e = p.2 in
     let f = p.3 in
-    (p.0, omega arith, c.wide-code.ensures.1, c.wide-place.ensures.1, c.wide-related.ensures.1, c.wide-entry.ensures.1)
+    (p.0, omega arith, search rules, search rules, search rules, search rules)
 
 pub loop-i-preserved : goal.loop-i-preserved
 loop-i-preserved c =
@@ -29,7 +29,7 @@ loop-i-preserved c =
     let v = c.loop-i.invariant in
     let b = v.1 in
     let d = l.1 in
-    let next = lines_next a.image.now a.words.now c.loop-i.i c.wide-code.ensures.0 c.wide-place.ensures.0 c.wide-related.ensures.0 c.wide-entry.ensures.0 in
+    let next = lines_next a.image.now a.words.now c.loop-i.i c.from-code.ensures c.from-place.ensures c.from-related.ensures c.from-entry.ensures in
     (search rules, omega arith, wrote_as next (wrote-join v.2 l.0))
 
 pub shape_of-out : goal.shape_of-out

@@ -7,6 +7,3 @@ use Rattle.render.proofs.record_lines.Given as goal
 
 abbrev pub invariant-loop-i : goal.invariant-loop-i
 invariant-loop-i l = (l.i ≤ l.count) × (l.k ≤ l.at + 46 * l.i) × Printed l.initial.out l.at (run (line_at l.image l.words) 0 l.i) l.out l.k
-
-abbrev pub decreases-loop-i : goal.decreases-loop-i
-decreases-loop-i l = l.count - l.i

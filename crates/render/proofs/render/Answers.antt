@@ -24,18 +24,18 @@ list_lines-requires c =
     let a = c.pass_line-i.ensures.1 in
     let b = c.pass_line-j.ensures.1 in
     let d = c.pass_line-k.ensures.1 in
-    (admitted-by _ _ (sym c.admit.ensures ∙ c.in-Admitted.is), omega arith)
+    (admitted-by _ _ (sym c.admit.ensures ∙ c.in-Ok.is), omega arith)
 
-pub returns-in-Refused : goal.returns-in-Refused
+pub returns-in-Err : goal.returns-in-Err
 unfolding bytes
-returns-in-Refused c = let t = line-few 450000 (omega arith) (report-refused c.args.image.now _ (sym c.admit.ensures ∙ c.in-Refused.is)) c.text-k.ensures c.rest_one.ensures in record { printed = t.0; upper_bound = t.1 }
+returns-in-Err c = let t = line-few 450000 (omega arith) (report-refused c.args.image.now _ (sym c.admit.ensures ∙ c.in-Err.is)) c.text-k.ensures (rw c.number.ensures at c.rest_one.ensures) in record { printed = t.0; upper_bound = t.1 }
 
-pub returns-in-Admitted : goal.returns-in-Admitted
+pub returns-in-Ok : goal.returns-in-Ok
 unfolding bytes
-returns-in-Admitted c =
+returns-in-Ok c =
     let s = c.args.image.now in
-    let e = (admitted-by s _ (sym c.admit.ensures ∙ c.in-Admitted.is)).admitted in
-    let v = c.verdicts-answers.ensures in
+    let e = (admitted-by s _ (sym c.admit.ensures ∙ c.in-Ok.is)).admitted in
+    let v = c.answer_all-answers.ensures in
     let i = c.pass_line-i.ensures in
     let j = c.pass_line-j.ensures in
     let k = c.pass_line-k.ensures in
