@@ -103,12 +103,10 @@ fn used_ok(marks: &[bool; Image::NAMES + 1], m: usize) -> bool
     requires { m ≤ max_names }
     ensures { result ≡ every (mark_at marks.now) m }
 {
-    let mut k = 0;
-    while k < m {
+    for k in 0..m {
         if !marks[k + 1] {
             return false;
         }
-        k += 1;
     }
     true
 }

@@ -32,6 +32,8 @@ const EXPRESSION: usize = 12;
 const CONTRACT: usize = 13;
 
 // One number for each kind: its family, of which there are 16 numbers, plus the form of the text that it carries, plus the state that its row starts in.
+// Not a struct of three fields: the definition `kind_table`, which the contracts speak of, is a list of these numbers, and a reader
+// finds the table below equal to it by computation.
 pub const TEXT: usize = 16;
 
 pub const ROW: usize = 64;
@@ -304,5 +306,5 @@ pub fn next(nexts: &Nexts, s: usize, f: usize) -> usize
     requires { (s < 31) × (f < 16) × (nexts.now ≡ next_states) }
     ensures { (result ≡ next_state s f) × (result < 31) }
 {
-    image::wide(nexts[TEXT * s + f])
+    usize::from(nexts[TEXT * s + f])
 }

@@ -1,4 +1,5 @@
 // Bytes, numbers and the ends of lines, written into a lent buffer. What does not fit is not written; all of it is counted.
+// Not `write!`: a writer over a lent buffer would end at the first byte that does not fit, and the rest would not be counted.
 #![tactic(auto)]
 
 ghost use Rattle.std.specs.Prelude.{◌≡◌, [], ◌∷◌, ◌+◌, ◌<◌, ◌≤◌, ◌^◌, length, set};
@@ -79,12 +80,9 @@ pub fn text(t: &[u8], out: &mut [u8], at: usize) -> usize
     requires { at + length t.now < 2 ^ 60 }
     ensures { Printed out.old at t.now out.new result }
 {
-    let n = t.len();
-    let mut i = 0;
     let mut k = at;
-    while i < n {
-        k = put(out, k, t[i]);
-        i += 1;
+    for b in t {
+        k = put(out, k, *b);
     }
     k
 }

@@ -1,44 +1,21 @@
 // The names of an image in order: document 01's text forms and name table, refusal 5.
 #![tactic(auto)]
 
-ghost use Rattle.std.specs.Prelude.{◌≡◌, ◌+◌, ◌*◌, ◌<◌, ◌≤◌, true, length, ltb, leb};
-ghost use Rattle.image.specs.Pick.{pick, among};
+ghost use Rattle.std.specs.Prelude.{◌≡◌, ◌+◌, ◌*◌, ◌<◌, ◌≤◌, true, length, leb};
 ghost use Rattle.name_table.specs.Bytes.{all_words, Alike, four_of};
 ghost use Rattle.image.specs.Text.{class_of, less, name_at, names_ok};
 
 use image::Image;
 
-// Whether b is one of the bytes from low to high.
-fn among(low: u8, high: u8, b: u8) -> bool
-    ensures { result ≡ among low high b }
-{
-    if low <= b { b <= high } else { false }
-}
-
 // The class of a byte: a letter or `_` 1, a digit 2, any other 0.
 fn class(b: u8) -> u8
     ensures { result ≡ class_of b }
 {
-    if among(b'a', b'z', b) {
-        return 1;
+    match b {
+        b'a'..=b'z' | b'A'..=b'Z' | b'_' => 1,
+        b'0'..=b'9' => 2,
+        _ => 0,
     }
-    if among(b'A', b'Z', b) {
-        return 1;
-    }
-    if b == b'_' {
-        return 1;
-    }
-    if among(b'0', b'9', b) {
-        return 2;
-    }
-    0
-}
-
-// The lower of two classes.
-fn lower(c: u8, d: u8) -> u8
-    ensures { result ≡ pick (ltb c d) c d }
-{
-    if c < d { c } else { d }
 }
 
 // The lowest class of a byte of the text (2 where it has none): 0 if one of them is of no class.
@@ -46,10 +23,8 @@ fn lowest(t: &[u8]) -> u8
     ensures { leb 1 result ≡ all_words t.now }
 {
     let mut low = 2;
-    let mut k = 0;
-    while k < t.len() {
-        low = lower(class(t[k]), low);
-        k += 1;
+    for b in t {
+        low = low.min(class(*b));
     }
     low
 }
@@ -58,6 +33,7 @@ fn lowest(t: &[u8]) -> u8
 fn alike(t: &[u8], u: &[u8]) -> usize
     ensures { Alike t.now u.now result }
 {
+    // Not a `for`: the counter goes by fours, and where it stands at the end is the answer.
     let mut k = 0;
     while k + 4 <= u.len() {
         if t.len() < k + 4 {
@@ -76,8 +52,8 @@ fn four_at(s: &[u8], k: usize) -> usize
     requires { k + 3 < length s.now }
     ensures { result ≡ four_of s.now k }
 {
-    256 * (256 * (256 * image::wide(s[k]) + image::wide(s[k + 1])) + image::wide(s[k + 2]))
-        + image::wide(s[k + 3])
+    256 * (256 * (256 * usize::from(s[k]) + usize::from(s[k + 1])) + usize::from(s[k + 2]))
+        + usize::from(s[k + 3])
 }
 
 // Whether t is before u, as `below` has it: where both go on, the first four bytes that are not alike decide.
@@ -85,10 +61,8 @@ fn rises(t: &[u8], u: &[u8]) -> bool
     ensures { result ≡ less t.now u.now }
 {
     let k = alike(t, u);
-    if k + 4 <= t.len() {
-        if k + 4 <= u.len() {
-            return four_at(t, k) < four_at(u, k);
-        }
+    if k + 4 <= t.len() && k + 4 <= u.len() {
+        return four_at(t, k) < four_at(u, k);
     }
     image::below(&t[k..], &u[k..])
 }
@@ -129,15 +103,13 @@ pub fn names_ok(names: &[u8], text: &[u8], m: usize) -> bool
     }
     let mut p = 0;
     let mut a = 0;
-    let mut k = 0;
-    while k < m {
+    for k in 0..m {
         let b = image::offset(names, k + 1);
         if !name_ok(text, p, a, b) {
             return false;
         }
         p = a;
         a = b;
-        k += 1;
     }
     true
 }

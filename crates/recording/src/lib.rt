@@ -8,4 +8,4 @@ mod tell;
 
 pub use list::{Part, Parts, RECORD_BYTES, RECORD_WORDS, part_of, parts_of, records_differ};
 pub use read::{u8_at, u32_at, wide_u16, wide_u32};
-pub use tell::{Case, Numbers, answer_differs, differs, summary, text, verdict_differs};
+pub use tell::{Case, Numbers, answer_differs, differs, summary, verdict_differs};

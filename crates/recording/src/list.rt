@@ -60,10 +60,10 @@ fn answered_with(words: &[u16], k: usize, head: Numbers) -> Numbers
     requires { k + record_words ≤ length words.now }
     ensures { result ≡ record_in words.now k head }
 {
-    let code = read::wide_u16(words[k]);
-    let place = read::wide_u16(words[k + 1]);
-    let related = read::wide_u16(words[k + 2]);
-    let entry = read::wide_u16(words[k + 3]);
+    let code = usize::from(words[k]);
+    let place = usize::from(words[k + 1]);
+    let related = usize::from(words[k + 2]);
+    let entry = usize::from(words[k + 3]);
     with_record(head, code, place, related, entry)
 }
 
@@ -71,7 +71,7 @@ fn answered_with(words: &[u16], k: usize, head: Numbers) -> Numbers
 fn record_differs(
     rt: &impl Print,
     case: Case,
-    asked: &[u8],
+    asked: &str,
     file: &[u8],
     at: usize,
     words: &[u16],
@@ -91,7 +91,7 @@ fn record_differs(
 fn others(
     rt: &impl Print,
     case: Case,
-    asked: &[u8],
+    asked: &str,
     file: &[u8],
     at: usize,
     words: &[u16],
@@ -103,8 +103,7 @@ fn others(
 {
     let count = head.1;
     let mut differ = 0;
-    let mut i = 0;
-    while i < count {
+    for i in 0..count {
         differ += record_differs(
             rt,
             case,
@@ -115,7 +114,6 @@ fn others(
             RECORD_WORDS * i,
             head,
         )?;
-        i += 1;
     }
     Ok(differ)
 }
@@ -125,14 +123,12 @@ fn run_below(file: &[u8], at: usize, count: usize, code: usize) -> usize
     requires { at + record_bytes * count ≤ length file.now }
     ensures { (result ≡ run_below file.now at code count) × (result ≤ count) }
 {
-    let mut i = 0;
-    while i < count {
+    for i in 0..count {
         if code <= read::u16_at(file, at + RECORD_BYTES * i) {
             return i;
         }
-        i += 1;
     }
-    i
+    count
 }
 
 // Each pass's part of a list.
@@ -159,7 +155,7 @@ pub fn parts_of(file: &[u8], at: usize, count: usize) -> Parts
 pub fn records_differ(
     rt: &impl Print,
     case: Case,
-    asked: &[u8],
+    asked: &str,
     file: &[u8],
     part: Part,
     answer: Numbers,

@@ -5,18 +5,13 @@ ghost use Rattle.recording.specs.Told.{verdict_at};
 
 use crate::tell::Numbers;
 
-fn wide(b: u8) -> usize
-    ensures { (result ≡ b) × (result < 256) }
-{
-    b as usize
-}
-
 pub fn wide_u16(w: u16) -> usize
     ensures { result ≡ w }
 {
-    w as usize
+    usize::from(w)
 }
 
+// Not `usize::from`, which a u32 does not have, nor has it in Rust.
 pub fn wide_u32(w: u32) -> usize
     ensures { result ≡ w }
 {
@@ -27,21 +22,21 @@ pub fn u8_at(s: &[u8], at: usize) -> usize
     requires { at < length s.now }
     ensures { (result ≡ get_or s.now at 0) × (result < 256) }
 {
-    wide(s[at])
+    usize::from(s[at])
 }
 
 pub fn u16_at(s: &[u8], at: usize) -> usize
     requires { at + 2 ≤ length s.now }
     ensures { (result ≡ half s.now at) × (result < 65536) }
 {
-    u8_at(s, at) + 256 * u8_at(s, at + 1)
+    usize::from(u16::from_le_bytes([s[at], s[at + 1]]))
 }
 
 pub fn u32_at(s: &[u8], at: usize) -> usize
     requires { at + 4 ≤ length s.now }
     ensures { (result ≡ full_word s.now at) × (result < 4294967296) }
 {
-    u16_at(s, at) + 65536 * u16_at(s, at + 2)
+    u32::from_le_bytes([s[at], s[at + 1], s[at + 2], s[at + 3]]) as usize
 }
 
 // The recorded verdict of a pass.

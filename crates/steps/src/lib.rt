@@ -2,8 +2,7 @@
 // position of the walk after it.
 #![tactic(auto)]
 
-ghost use Rattle.std.specs.Prelude.{◌≡◌, ℕ, ◌+◌, ◌*◌, ◌<◌, ◌≤◌, true, length, get_or, set, ltb, eqb};
-ghost use Rattle.image.specs.Pick.{pick};
+ghost use Rattle.std.specs.Prelude.{◌≡◌, ℕ, ◌+◌, ◌*◌, ◌<◌, ◌≤◌, true, length, get_or, set, eqb};
 ghost use Rattle.image.specs.Maxima.{max_nodes, max_names};
 ghost use Rattle.image.specs.Node.{half, kind_of, name_of};
 ghost use Rattle.image.specs.Digits.{kind_facts, kind_table, fields_ok};
@@ -41,7 +40,7 @@ fn zeros_ok(nodes: &[u8], i: usize) -> bool
     requires { 16 * i + 16 ≤ length nodes.now }
     ensures { result ≡ eqb (get_or nodes.now (16 * i + 1) 0 + half nodes.now (16 * i + 6)) 0 }
 {
-    image::wide(nodes[16 * i + 1]) + image::half_at(nodes, 16 * i + 6) == 0
+    usize::from(nodes[16 * i + 1]) + image::half_at(nodes, 16 * i + 6) == 0
 }
 
 // Whether the fields of node i, but for its end, are as the tree wants them; `of` are the facts of its kind.
@@ -78,10 +77,7 @@ pub fn child_ok(nodes: &[u8], names: &[u8], text: &[u8], m: usize, of: usize, p:
         return false;
     }
     let to = image::end(nodes, p.at);
-    if to <= p.at {
-        return false;
-    }
-    to <= p.end
+    p.at < to && to <= p.end
 }
 
 // The name of node i is marked.
@@ -91,13 +87,6 @@ pub fn mark(nodes: &[u8], i: usize, marks: &mut [bool; Image::NAMES + 1])
 {
     let x = image::name(nodes, i);
     marks[x] = true;
-}
-
-// The larger of two numbers.
-fn larger(a: usize, b: usize) -> usize
-    ensures { result ≡ pick (ltb a b) b a }
-{
-    if a < b { b } else { a }
 }
 
 // Where the walk over the nodes stands. Nodes stand in preorder, so one node after the other is met, each as a child of the open node.
@@ -128,13 +117,6 @@ pub fn start(n: usize) -> Position
     }
 }
 
-// A u16 as a usize.
-fn wide16(b: u16) -> usize
-    ensures { result ≡ b }
-{
-    b as usize
-}
-
 // The open node ends here: its parent is open again, with the state and the end that the stack has of it.
 pub fn up(p: Position, states: &[u8; Image::NODES], ends: &[u16; Image::NODES]) -> Position
     requires { (1 ≤ p.depth) × (p.depth ≤ max_nodes) }
@@ -143,8 +125,8 @@ pub fn up(p: Position, states: &[u8; Image::NODES], ends: &[u16; Image::NODES]) 
     let d = p.depth - 1;
     Position {
         at: p.at,
-        state: image::wide(states[d]),
-        end: wide16(ends[d]),
+        state: usize::from(states[d]),
+        end: usize::from(ends[d]),
         depth: d,
         deepest: p.deepest,
     }
@@ -160,7 +142,7 @@ fn past(p: Position, after: usize) -> Position
         state: after,
         end: p.end,
         depth: p.depth,
-        deepest: larger(p.deepest, p.depth),
+        deepest: p.deepest.max(p.depth),
     }
 }
 
@@ -184,7 +166,7 @@ fn down(
         state: row,
         end: to,
         depth: d + 1,
-        deepest: larger(p.deepest, d),
+        deepest: p.deepest.max(d),
     }
 }
 
@@ -200,10 +182,7 @@ pub fn on(
     requires { Roomy p after }
     ensures { Further after row to states.old ends.old states.new ends.new p result }
 {
-    if p.at + 1 < to {
-        return down(p, after, row, to, states, ends);
-    }
-    if row < MAY_END {
+    if p.at + 1 < to || row < MAY_END {
         return down(p, after, row, to, states, ends);
     }
     past(p, after)

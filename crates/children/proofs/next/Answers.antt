@@ -10,6 +10,6 @@ use Rattle.children.proofs.next.Goals as goal
 pub returns : goal.returns
 returns c =
     let a = c.args in
-    let e = c.wide.ensures.0 ∙ ap (λ (l : List ℕ). get_or l (16 * a.s + a.f) 0) c.requires.2 in
+    let e = c.from.ensures ∙ ap (λ (l : List ℕ). get_or l (16 * a.s + a.f) 0) c.requires.2 in
     let h = next_small (16 * a.s + a.f) (omega arith) in
     (e, omega arith)

@@ -10,12 +10,12 @@ use Rattle.image.proofs.Every.{every-none}
 use Rattle.name_table.proofs.Words.{low-more}
 use Rattle.name_table.proofs.lowest.Goals as goal
 
-pub loop-k-init : goal.loop-k-init
-loop-k-init c = (search rules, sym (every-none _))
+pub loop-b-init : goal.loop-b-init
+loop-b-init c = (search rules, sym (every-none _))
 
-pub loop-k-preserved : goal.loop-k-preserved
-loop-k-preserved c = (search rules, low-more _ _ _ _ _ c.loop-k.invariant.1 c.class.ensures c.lower-low.ensures)
+pub loop-b-preserved : goal.loop-b-preserved
+loop-b-preserved c = (search rules, low-more _ _ _ _ _ c.loop-b.invariant.1 c.class.ensures c.min-low.ensures)
 
 pub returns : goal.returns
 unfolding all_words
-returns c = let i = c.loop-k.invariant in let e : c.loop-k.k ≡ length c.args.t.now = omega arith in i.1 ∙ ap (every (word_at c.args.t.now)) e
+returns c = let i = c.loop-b.invariant in let e : c.loop-b.b-index ≡ length c.args.t.now = omega arith in i.1 ∙ ap (every (word_at c.args.t.now)) e

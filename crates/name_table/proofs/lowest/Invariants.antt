@@ -1,5 +1,5 @@
 -- `lowest` meets its contract: the lowest class so far is one exactly when every byte passed is of a class.
-use Prim.Native.Nat.{◌-◌, ◌≤◌}
+use Prim.Native.Nat.{◌≤◌}
 use mathlib.Core.Path.{◌≡◌}
 use lib.ListN.{length}
 use lib.Dec.{leb}
@@ -7,8 +7,5 @@ use Rattle.image.specs.Pick.{every}
 use Rattle.image.specs.Text.{word_at}
 use Rattle.name_table.proofs.lowest.Given as goal
 
-abbrev pub invariant-loop-k : goal.invariant-loop-k
-invariant-loop-k l = (l.k ≤ length l.t) × (leb 1 l.low ≡ every (word_at l.t) l.k)
-
-abbrev pub decreases-loop-k : goal.decreases-loop-k
-decreases-loop-k l = length l.t - l.k
+abbrev pub invariant-loop-b : goal.invariant-loop-b
+invariant-loop-b l = (l.b-index ≤ length l.t) × (leb 1 l.low ≡ every (word_at l.t) l.b-index)

@@ -7,8 +7,5 @@ use Rattle.steps.proofs.on.Goals as goal
 pub returns-then-p-to : goal.returns-then-p-to
 returns-then-p-to c = inr c.down.ensures
 
-pub returns-then-row-lt-MAY_END : goal.returns-then-row-lt-MAY_END
-returns-then-row-lt-MAY_END c = inr c.down-then-row-lt-MAY_END.ensures
-
 pub returns : goal.returns
 returns c = inl (record { last = omega arith; may = omega arith; moved = c.past.ensures; same_states = refl; same_ends = refl })

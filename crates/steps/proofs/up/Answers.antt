@@ -2,4 +2,4 @@
 use Rattle.steps.proofs.up.Goals as goal
 
 pub returns : goal.returns
-returns c = simp (c.wide.ensures.0, c.wide16.ensures)
+returns c = simp (c.from.ensures, c.from-2.ensures)

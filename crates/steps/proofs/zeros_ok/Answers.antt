@@ -10,5 +10,5 @@ use Rattle.steps.proofs.zeros_ok.Goals as goal
 pub returns : goal.returns
 returns c =
     let a = c.args in
-    let e : c.wide.result + c.half_at.result ≡ get_or a.nodes.now (16 * a.i + 1) 0 + half a.nodes.now (16 * a.i + 6) = omega arith in
+    let e : c.from.result + c.half_at.result ≡ get_or a.nodes.now (16 * a.i + 1) 0 + half a.nodes.now (16 * a.i + 6) = omega arith in
     ap (λ (x : ℕ). eqb x 0) e

@@ -1,5 +1,7 @@
 -- `run_below` meets its contract: it goes on as long as codes are below.
 use borrow.Author.Rules.{rules}
+use native.Mathlib.Omega.{arith}
+use mathlib.Core.Path.{◌≡◌, ◌∙◌}
 use Rattle.recording.proofs.Laws.{ran-none, ran-more, ran-stops, ran-all}
 use Rattle.recording.proofs.list.run_below.Goals as goal
 
@@ -16,4 +18,6 @@ loop-i-preserved c = (
 )
 
 pub returns : goal.returns
-returns c = (ran-all c.args.file.now c.args.code c.args.at c.args.count c.loop-i.i c.loop-i.invariant.0 (search rules), search rules)
+returns c =
+    let e : c.args.count ≡ c.loop-i.i = omega arith in
+    (e ∙ ran-all c.args.file.now c.args.code c.args.at c.args.count c.loop-i.i c.loop-i.invariant.0 (search rules), search rules)
