@@ -26,6 +26,10 @@ module _ {part : List ℕ} {b from : ℕ} {s s' : Children} (e : s' ≡ s) (g : 
   pub begun : Over part b s'.to s'
   begun = rw e (record { nodes = g.nodes; base = g.base; last = refl })
 
+  -- one whose end is known at once, as that of an entry's head
+  pub begun-to : {to : ℕ} → s.to ≡ to → Over part b to s'
+  begun-to d = record { nodes = begun.nodes; base = begun.base; last = rw e d }
+
   pub at-first : s'.at ≡ from
   at-first = rw e g.first
 

@@ -167,14 +167,8 @@ pub fn mark_parts(sort: usize, nodes: &[u8], entry: usize, to: usize, on: bool, 
     requires { HeadPart sort × Head nodes.now 0 entry to }
     ensures { Turns on (λ (W : View nodes.now 0) w. some_below (tree_of W) (sort ∷ []) entry (named (tree_of W) w)) marks.old marks.new }
 {
-    let mut children = Cursor {
-        base: 0,
-        at: entry + 1,
-        end: to,
-    };
-    while children.at < children.end {
-        mark_name(sort, nodes, children.at, on, marks);
-        children = children.step(nodes).rest;
+    for part in Children::heads(nodes, entry, to) {
+        mark_name(sort, nodes, part, on, marks);
     }
 }
 
@@ -218,14 +212,12 @@ pub fn down(past: Past, nodes: &[u8], base: usize, x: usize) -> usize
     ensures { (x ≤ result) × ((W : View nodes.now base) → result ≡ down (tree_of W) (taken_off past) x) }
 {
     let to = end(nodes, base, x);
-    let mut r = x;
-    while r < to {
+    for r in x..to {
         if !is_past(past, kind(nodes, base, r)) {
             return r;
         }
-        r += 1;
     }
-    r
+    to
 }
 
 // The next node of a walk over the items and the fields of a contract: into a State, past any other node.
