@@ -1,6 +1,6 @@
 -- A loop over children: the iterator stays in its part and keeps its end, and each turn goes on to the end of the child.
 use Prim.Native.Nat.{ℕ, ◌<◌, ◌≤◌}
-use mathlib.Core.Path.{◌≡◌, refl, ◌∙◌, sym}
+use mathlib.Core.Path.{◌≡◌, refl, ◌∙◌}
 use mathlib.Core.List.{List}
 use native.Mathlib.Omega.{arith}
 use Rattle.nodes.specs.Shown.{View, In, tree_of}

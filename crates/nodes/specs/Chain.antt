@@ -1,5 +1,5 @@
 -- Children of a node in a lent part, one after another: where a walk over them stands, and what one step of it gives.
-use Rattle.std.specs.Prelude.{ℕ, ◌+◌, ◌*◌, ◌-◌, ◌<◌, ◌≤◌, ◌≡◌, List, length}
+use Rattle.std.specs.Prelude.{ℕ, ◌*◌, ◌-◌, ◌<◌, ◌≤◌, ◌≡◌, List, length}
 use Rattle.image.specs.Maxima.{max_nodes}
 use Rattle.image.specs.Node.{end_of}
 use Rattle.nodes.specs.Shown.{View, In, tree_of}

@@ -181,28 +181,21 @@ pub enum Past {
 }
 
 // Checked and Wrapping.
+#[tactic(auto, using(std::proofs::lemmas::Bool::Decides::nat_tests), unfolding(rules::specs::Sweep::has))]
 fn is_peel(k: usize) -> bool
     ensures { result ≡ has k peels }
 {
-    match k {
-        44 => true,
-        45 => true,
-        _ => false,
-    }
+    matches!(k, 44 | 45)
 }
 
+#[tactic(auto, using(std::proofs::lemmas::Bool::Decides::nat_tests), unfolding(rules::specs::Sweep::has))]
 fn is_past(past: Past, k: usize) -> bool
     ensures { result ≡ has k (taken_off past) }
 {
     match past {
         Past::Peels => is_peel(k),
         Past::Fields => k == FIELD,
-        Past::Both => {
-            if k == FIELD {
-                return true;
-            }
-            is_peel(k)
-        }
+        Past::Both => k == FIELD || is_peel(k),
     }
 }
 
@@ -232,17 +225,11 @@ pub fn next_declaration(nodes: &[u8], base: usize, p: usize) -> usize
 }
 
 // The kinds that may hold a Type.
+#[tactic(auto, using(std::proofs::lemmas::Bool::Decides::nat_tests), unfolding(rules::specs::Sweep::has))]
 fn is_type_holder(k: usize) -> bool
     ensures { result ≡ has k type_holders }
 {
-    match k {
-        STATE => true,
-        FIELD_DECL => true,
-        ENTRY => true,
-        PARAM => true,
-        TYPE => true,
-        _ => false,
-    }
+    matches!(k, STATE | FIELD_DECL | ENTRY | PARAM | TYPE)
 }
 
 // The next node of a walk over the types of a contract: into what may hold one, past any other node.
