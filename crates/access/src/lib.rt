@@ -17,7 +17,7 @@ ghost use Rattle.access.specs.Seen.{AccessTables, Writing, WritingBody, seen_acc
 
 use image::Image;
 use names::{Methods, Words};
-use nodes::{ASSIGN, CALL, Cursor, ENTRY, IDENT, INVARIANT, Marks, Past, WRITES};
+use nodes::{ASSIGN, CALL, Children, ENTRY, IDENT, INVARIANT, Marks, Past, WRITES};
 
 // 50 at a node of an Invariant: an Ident that is no state name.
 fn rule50(nodes: &[u8], p: usize, state: &Marks) -> bool
@@ -40,10 +40,8 @@ fn invariant(nodes: &[u8], item: usize, state: &Marks, out: &mut [u16], count: u
     }
     let end = nodes::end(nodes, 0, item);
     let mut total = count;
-    let mut p = item + 1;
-    while p < end {
+    for p in item + 1..end {
         total = records::emit_if(rule50(nodes, p, state), out, total, 50, p, 0);
-        p += 1;
     }
     total
 }
@@ -53,16 +51,9 @@ fn group50(nodes: &[u8], state: &Marks, out: &mut [u16], count: usize) -> usize
     requires { State nodes.now 0 state.now × In nodes.now 0 0 × (count < 2 ^ 40) }
     ensures { Adds (seen group50 nodes.now 0 state.now) (2048 * 2048) out.old out.new count result }
 {
-    let to = nodes::end(nodes, 0, 0);
     let mut total = count;
-    let mut children = Cursor {
-        base: 0,
-        at: 1,
-        end: to,
-    };
-    while children.at < children.end {
-        total = invariant(nodes, children.at, state, out, total);
-        children = children.step(nodes).rest;
+    for item in Children::of(nodes, 0, 0) {
+        total = invariant(nodes, item, state, out, total);
     }
     total
 }
@@ -76,10 +67,8 @@ fn mark_clause(nodes: &[u8], clause: usize, on: bool, written: &mut Marks)
         return;
     }
     let end = nodes::end(nodes, 0, clause);
-    let mut p = clause + 1;
-    while p < end {
+    for p in clause + 1..end {
         nodes::mark(written, nodes, 0, p, on);
-        p += 1;
     }
 }
 
@@ -88,14 +77,8 @@ fn declared_writes(nodes: &[u8], entry: usize, to: usize, on: bool, written: &mu
     requires { Head nodes.now 0 entry to }
     ensures { Turns on (λ (W : View nodes.now 0). written_in (tree_of W) entry) written.old written.new }
 {
-    let mut children = Cursor {
-        base: 0,
-        at: entry + 1,
-        end: to,
-    };
-    while children.at < children.end {
-        mark_clause(nodes, children.at, on, written);
-        children = children.step(nodes).rest;
+    for clause in Children::heads(nodes, entry, to) {
+        mark_clause(nodes, clause, on, written);
     }
 }
 
@@ -157,8 +140,7 @@ fn statements(
 {
     let end = base + nodes.len() / 16;
     let mut total = count;
-    let mut p = base;
-    while p < end {
+    for p in base..end {
         total = records::emit_if(
             rule51(nodes, base, p, state, writer, written),
             out,
@@ -167,7 +149,6 @@ fn statements(
             p,
             entry,
         );
-        p += 1;
     }
     total
 }
@@ -209,16 +190,9 @@ fn group51(
     requires { AccessTables nodes.now state.now writer.now written.old × (count < 2 ^ 40) }
     ensures { Adds (seen_access group51 nodes.now state.now writer.now written.old) (2048 * 2048) out.old out.new count result }
 {
-    let to = nodes::end(nodes, 0, 0);
     let mut total = count;
-    let mut children = Cursor {
-        base: 0,
-        at: 1,
-        end: to,
-    };
-    while children.at < children.end {
-        total = entry(nodes, children.at, state, writer, written, out, total);
-        children = children.step(nodes).rest;
+    for item in Children::of(nodes, 0, 0) {
+        total = entry(nodes, item, state, writer, written, out, total);
     }
     total
 }

@@ -12,7 +12,7 @@ ghost use Rattle.model.specs.Questions.{question_of, of_no_name};
 ghost use Rattle.model.specs.Assets.{Assets, AssetWords, TypesEnd, Inside, Gains, Knows, inside_at, inside_item, inside};
 
 use image::Image;
-use nodes::{ASSET, Cursor, ENTRY, FIELD_DECL, Marks, TYPE};
+use nodes::{ASSET, Children, ENTRY, FIELD_DECL, Marks, TYPE};
 
 // The questions about a name.
 #[derive(Clone, Copy)]
@@ -111,15 +111,8 @@ fn mark_inners(nodes: &[u8], asset: usize, known: &mut Marks)
     requires { Assets nodes.now asset × In nodes.now 0 0 }
     ensures { Gains (λ (A : Assets nodes.now asset). inside A) known.old known.new }
 {
-    let to = nodes::end(nodes, 0, 0);
-    let mut children = Cursor {
-        base: 0,
-        at: 1,
-        end: to,
-    };
-    while children.at < children.end {
-        mark_item(nodes, children.at, asset, known);
-        children = children.step(nodes).rest;
+    for item in Children::of(nodes, 0, 0) {
+        mark_item(nodes, item, asset, known);
     }
 }
 

@@ -13,6 +13,7 @@ use image::Image;
 use nodes::Marks;
 
 // Whether two byte strings are equal: names are equal only when their bytes are.
+#[tactic(auto, using(crate::proofs::Bytes::eq_same))]
 pub fn equal(v: &[u8], w: &[u8]) -> bool
     ensures { result ≡ same v.now w.now }
 {

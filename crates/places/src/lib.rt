@@ -7,7 +7,7 @@ ghost use Rattle.nodes.specs.First.{NameFirst, Declaring, NamedPart, HeadPart, H
 ghost use Rattle.places.specs.Places.{Places, Notes, taken, noting, notes_below, is_named};
 
 use image::Image;
-use nodes::Cursor;
+use nodes::Children;
 
 // One node for each of 1,024 names, by name number less one; 0 where there is none.
 pub type Places = [u16; Image::NAMES];
@@ -73,14 +73,8 @@ fn note_until(note: Note, kind: usize, nodes: &[u8], entry: usize, to: usize, pl
     requires { NamedPart kind × Until nodes.now 0 entry to kind }
     ensures { Notes (λ (W : View nodes.now 0). notes_below note (tree_of W) (kind ∷ []) entry) places.old places.new }
 {
-    let mut children = Cursor {
-        base: 0,
-        at: entry + 1,
-        end: to,
-    };
-    while children.at < children.end {
-        note_node(note, kind, nodes, children.at, places);
-        children = children.step(nodes).rest;
+    for part in Children::until(nodes, entry, to) {
+        note_node(note, kind, nodes, part, places);
     }
 }
 
