@@ -19,6 +19,13 @@ use image::Image;
 use names::{Methods, Words};
 use nodes::{ASSIGN, CALL, Children, ENTRY, IDENT, INVARIANT, Marks, Past, WRITES};
 
+// The tables that 51 only reads: the state names, and the words that write their base.
+#[derive(Clone, Copy)]
+struct Tables<'a> {
+    state: &'a Marks,
+    writer: &'a Marks,
+}
+
 // 50 at a node of an Invariant: an Ident that is no state name.
 fn rule50(nodes: &[u8], p: usize, state: &Marks) -> bool
     requires { State nodes.now 0 state.now × In nodes.now 0 p }
@@ -101,24 +108,17 @@ fn is_write(nodes: &[u8], base: usize, x: usize, state: &Marks, written: &Marks)
 }
 
 // 51 at a node of an entry's statements: the target of an Assign, or the base of a Call that writes it.
-fn rule51(
-    nodes: &[u8],
-    base: usize,
-    p: usize,
-    state: &Marks,
-    writer: &Marks,
-    written: &Marks,
-) -> bool
-    requires { WritingBody nodes.now base state.now writer.now written.now × In nodes.now base p }
-    ensures { Asks (seen_in (at51 p) nodes.now base state.now writer.now written.now) 51 p result }
+fn rule51(nodes: &[u8], base: usize, p: usize, tables: Tables, written: &Marks) -> bool
+    requires { WritingBody nodes.now base tables written.now × In nodes.now base p }
+    ensures { Asks (seen_in (at51 p) nodes.now base tables.entry written.now) 51 p result }
 {
     match nodes::kind(nodes, base, p) {
-        ASSIGN => is_write(nodes, base, p + 1, state, written),
+        ASSIGN => is_write(nodes, base, p + 1, tables.state, written),
         CALL => {
-            if !nodes::is_field(nodes, base, p + 1, writer) {
+            if !nodes::is_field(nodes, base, p + 1, tables.writer) {
                 return false;
             }
-            is_write(nodes, base, p + 2, state, written)
+            is_write(nodes, base, p + 2, tables.state, written)
         }
         _ => false,
     }
@@ -129,26 +129,19 @@ fn statements(
     nodes: &[u8],
     base: usize,
     entry: usize,
-    state: &Marks,
-    writer: &Marks,
+    tables: Tables,
     written: &Marks,
     out: &mut [u16],
     count: usize,
 ) -> usize
-    requires { WritingBody nodes.now base state.now writer.now written.now × (count < 2 ^ 50) × (entry < 2048) }
-    ensures { Adds (in_part entry nodes.now base (swept51 nodes.now base state.now writer.now written.now)) 2048 out.old out.new count result }
+    requires { WritingBody nodes.now base tables written.now × (count < 2 ^ 50) × (entry < 2048) }
+    ensures { Adds (in_part entry nodes.now base (swept51 nodes.now base tables.entry written.now)) 2048 out.old out.new count result }
 {
     let end = base + nodes.len() / 16;
     let mut total = count;
     for p in base..end {
-        total = records::emit_if(
-            rule51(nodes, base, p, state, writer, written),
-            out,
-            total,
-            51,
-            p,
-            entry,
-        );
+        let found = rule51(nodes, base, p, tables, written);
+        total = records::emit_if(found, out, total, 51, p, entry);
     }
     total
 }
@@ -157,15 +150,14 @@ fn statements(
 fn entry(
     nodes: &[u8],
     item: usize,
-    state: &Marks,
-    writer: &Marks,
+    tables: Tables,
     written: &mut Marks,
     out: &mut [u16],
     count: usize,
 ) -> usize
-    requires { AccessTables nodes.now state.now writer.now written.old × In nodes.now 0 item × (0 < item) × (count < 2 ^ 50) }
-    ensures adds { Adds (seen_access (item51 item) nodes.now state.now writer.now written.old) 2048 out.old out.new count result }
-    ensures cleans_written { CleansWritten nodes.now state.now writer.now written.old written.new }
+    requires { AccessTables nodes.now tables written.old × In nodes.now 0 item × (0 < item) × (count < 2 ^ 50) }
+    ensures adds { Adds (seen_access (item51 item) nodes.now tables.entry written.old) 2048 out.old out.new count result }
+    ensures cleans_written { CleansWritten nodes.now tables.entry written.old written.new }
 {
     if nodes::kind(nodes, 0, item) != ENTRY {
         return count;
@@ -173,7 +165,7 @@ fn entry(
     let first = items::first_statement(nodes, 0, item);
     declared_writes(nodes, item, first, true, written);
     let body = items::statements(nodes, 0, item, first);
-    let total = statements(body, first, item, state, writer, written, out, count);
+    let total = statements(body, first, item, tables, written, out, count);
     declared_writes(nodes, item, first, false, written);
     total
 }
@@ -181,18 +173,17 @@ fn entry(
 // 51: the entries in order.
 fn group51(
     nodes: &[u8],
-    state: &Marks,
-    writer: &Marks,
+    tables: Tables,
     written: &mut Marks,
     out: &mut [u16],
     count: usize,
 ) -> usize
-    requires { AccessTables nodes.now state.now writer.now written.old × (count < 2 ^ 40) }
-    ensures { Adds (seen_access group51 nodes.now state.now writer.now written.old) (2048 * 2048) out.old out.new count result }
+    requires { AccessTables nodes.now tables written.old × (count < 2 ^ 40) }
+    ensures { Adds (seen_access group51 nodes.now tables.entry written.old) (2048 * 2048) out.old out.new count result }
 {
     let mut total = count;
     for item in Children::of(nodes, 0, 0) {
-        total = entry(nodes, item, state, writer, written, out, total);
+        total = entry(nodes, item, tables, written, out, total);
     }
     total
 }
@@ -220,5 +211,9 @@ pub fn list(nodes: &[u8], words: Words, state: &Marks, out: &mut [u16]) -> usize
     mark_writers(words.methods, &mut writer);
     let mut written = [false; Image::NAMES];
     let count = group50(nodes, state, out, 0);
-    group51(nodes, state, &writer, &mut written, out, count)
+    let tables = Tables {
+        state,
+        writer: &writer,
+    };
+    group51(nodes, tables, &mut written, out, count)
 }

@@ -1,4 +1,5 @@
 -- `rule51` meets its contract: an Assign, a Call or neither.
+use borrow.Author.Rules.{rules}
 use native.Mathlib.Omega.{arith}
 use mathlib.Core.Path.{◌≡◌, refl, ◌∙◌, sym}
 use Prim.Native.Nat.{◌+◌}
@@ -44,8 +45,10 @@ pub returns-in_default : goal.returns-in_default
 returns-in_default c =
     λ T.
     let W = T.writing.view in
+    let m : c.kind.result ≡ 27 → ⊥ = search rules in
+    let n : c.kind.result ≡ 43 → ⊥ = search rules in
     let k = c.kind.ensures W in
-    other-51 (tree_of W) _ _ (λ e. c.in_default.in_default-own.rest.0.1 (k ∙ e)) (λ e. c.in_default.in_default-own.rest.1 (k ∙ e))
+    other-51 (tree_of W) _ _ (λ e. m (k ∙ e)) (λ e. n (k ∙ e))
 
 pub is_field-requires : goal.is_field-requires
 unfolding has

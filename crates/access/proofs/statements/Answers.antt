@@ -9,7 +9,7 @@ pub overflow_add-end : goal.overflow_add-end
 overflow_add-end c = let W = c.requires.0.writing.view in let u = (span-whole W (upto_is W)).under in omega arith
 
 pub loop-p-preserved : goal.loop-p-preserved
-loop-p-preserved c = let i = c.loop-p.invariant in (i.0, sweep-again i.1 (asked (λ h. h.seen) 51 _ (λ h. h.held _ i.1.low c.loop-p-test.true) _ c.rule51.ensures c.emit_if-total.ensures) c.loop-p-test.true)
+loop-p-preserved c = let i = c.loop-p.invariant in (i.0, sweep-again i.1 (asked (λ h. h.seen) 51 _ (λ h. h.held _ i.1.low c.loop-p-test.true) _ c.rule51-found.ensures c.emit_if-total.ensures) c.loop-p-test.true)
 
 pub loop-p-init : goal.loop-p-init
 loop-p-init c = whole-starts c.requires.0.writing.view
