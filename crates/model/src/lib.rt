@@ -12,7 +12,7 @@ ghost use Rattle.model.specs.Questions.{question_of, of_no_name};
 ghost use Rattle.model.specs.Assets.{Assets, AssetWords, TypesEnd, Inside, Gains, Knows, inside_at, inside_item, inside};
 
 use image::Image;
-use nodes::{ASSET, Children, ENTRY, FIELD_DECL, Marks, TYPE};
+use nodes::{ASSET, Children, Declarations, ENTRY, FIELD_DECL, Marks, TYPE};
 
 // The questions about a name.
 #[derive(Clone, Copy)]
@@ -27,11 +27,8 @@ fn mark_names(kind: usize, nodes: &[u8], marks: &mut Marks)
     requires { Declaring kind × View nodes.now 0 × In nodes.now 0 0 }
     ensures { Turns true (λ (W : View nodes.now 0). declares (tree_of W) (kind ∷ []) 0) marks.old marks.new }
 {
-    let end = nodes::end(nodes, 0, 0);
-    let mut p = 1;
-    while p < end {
-        nodes::mark_name(kind, nodes, p, true, marks);
-        p = nodes::next_declaration(nodes, 0, p);
+    for declaration in Declarations::of(nodes) {
+        nodes::mark_name(kind, nodes, declaration, true, marks);
     }
 }
 
@@ -156,8 +153,7 @@ fn of_no_name(question: Question, word: &[u8]) -> bool
     ensures { result ≡ of_no_name question word.now }
 {
     match question {
-        Question::State => false,
-        Question::Declared => false,
+        Question::State | Question::Declared => false,
         Question::Known => names::equal(word, b"QTOV"),
     }
 }
