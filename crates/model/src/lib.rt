@@ -96,6 +96,7 @@ fn mark_item(nodes: &[u8], item: usize, asset: usize, known: &mut Marks)
     ensures { Gains (λ (A : Assets nodes.now asset). inside_item item A) known.old known.new }
 {
     let to = types_end(nodes, item);
+    // A `while`, since this is the only walk over types: an iterator for one loop would be no plainer.
     let mut p = item;
     while p < to {
         mark_inner(nodes, p, asset, known);
