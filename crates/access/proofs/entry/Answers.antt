@@ -15,9 +15,6 @@ use Rattle.access.proofs.entry.Goals as goal
 pub returns-then-kind-ne-ENTRY : goal.returns-then-kind-ne-ENTRY
 returns-then-kind-ne-ENTRY c = record { adds = added-nothing (λ T. keep-none _ _ (has-not _ 9 (λ e. c.if-kind-ne-ENTRY.true (c.kind.ensures T.view ∙ e)))); cleans_written = λ T. T.clean }
 
-pub statements-body-requires : goal.statements-body-requires
-statements-body-requires c = let W = c.requires.0.view in record { view = W; here = c.requires.1; first = c.first_statement-first.ensures W }
-
 pub statements-total-requires : goal.statements-total-requires
 statements-total-requires c =
     let T = c.requires.0 in

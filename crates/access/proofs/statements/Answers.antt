@@ -14,8 +14,5 @@ loop-p-preserved c = let i = c.loop-p.invariant in (i.0, sweep-again i.1 (asked 
 pub loop-p-init : goal.loop-p-init
 loop-p-init c = whole-starts c.requires.0.writing.view
 
-pub shape_of-out : goal.shape_of-out
-shape_of-out c = sweep-long c.loop-p.invariant.1 (held_all _ c.requires.0)
-
 pub returns : goal.returns
 returns c = whole-swept (λ h. h.seen.writing.view) c.loop-p.invariant c.loop-p-test.false
