@@ -2,7 +2,8 @@
 use Prim.Native.Nat.{ℕ, ◌+◌, ◌<◌, ◌≤◌}
 use mathlib.Core.Path.{◌≡◌, ap, ◌∙◌, sym}
 use mathlib.Core.Bool.{Bool, true, false, not}
-use mathlib.Core.List.{append-nil}
+use mathlib.Core.List.{List, append-nil}
+use mathlib.Core.Logic.{inr}
 use native.Mathlib.Omega.{arith}
 use borrow.Author.Tests.{eq-eqb, ne_eqb, le-ltb, lt-ltb}
 use Rattle.image.specs.Pick.{both}
@@ -12,6 +13,8 @@ use Rattle.rules.specs.Words.{writers}
 use Rattle.rules.specs.Model.{is_state}
 use Rattle.rules.specs.Access.{rule50, is_write, is_unwritten, assign_rule, call_rule}
 use Rattle.records.proofs.Sweep.{has_one, has-not, keep_one, keep-none}
+use Rattle.nodes.specs.Shown.{View, In, Worded, tree_of}
+use Rattle.nodes.proofs.Shapes.{within-or}
 use Rattle.access.specs.Seen.{written_in, at50, at51}
 
 module _ (t : Tree) (p : ℕ) where
@@ -45,6 +48,14 @@ module _ (t : Tree) (e p : ℕ) where
 
     pub call-51 : {r : Bool} → is_field t writers (p + 1) ≡ true → r ≡ is_write t e (p + 2) → at51 p t e ≡ only r (rec 51 p 0)
     call-51 f d = call_at ∙ ap (λ (b : Bool). only (both b (is_write t e (p + 2))) (rec 51 p 0)) f ∙ ap (λ (b : Bool). only b (rec 51 p 0)) (sym d)
+
+-- the node that a walk down from x stopped at, as it was read: it stands in the part; where it is an Ident, it has a word
+module _ {part : List ℕ} {b x r e : ℕ} (W : View part b) (i : In part b x) (l : x ≤ r) (d : (W : View part b) → e ≡ (tree_of W).end x) (h : r < e) where
+  pub root-in : In part b r
+  root-in = within-or W i l (let y = d W in omega arith)
+
+  pub root-worded : {k : ℕ} → ((W : View part b) → k ≡ (tree_of W).kind r) → k ≡ 35 → Worded part b r
+  root-worded f g = record { view = W; here = root-in; carries = inr (sym (f W) ∙ g) }
 
 -- the root of x
 module _ (t : Tree) (e x r : ℕ) (d : r ≡ down t peels_fields x) where

@@ -18,11 +18,12 @@ use Rattle.nodes.proofs.Flat.{flat, not-assign}
 use Rattle.nodes.specs.State.{State}
 use Rattle.names.specs.declared.Words.{Words}
 use Rattle.names.specs.Spelled.{MethodsOf, Looked}
+use Rattle.access.specs.declared.Tables.{Tables}
 use Rattle.access.specs.Seen.{AccessTables, WritingBody, written_in, is_writer, at51, item51}
 
 -- what the scan of the statements is lent
-abbrev pub body_of : {nodes part : List ℕ} {state writer written marked : List Bool} {f : ℕ} (e : ℕ) (T : AccessTables nodes state writer written) → Shown T.view.image part f ((tree_of T.view).end e)
-    → Marks T.view.image (written_in (tree_of T.view) e) marked → WritingBody part f state writer marked
+abbrev pub body_of : {nodes part : List ℕ} {tables : Tables} {written marked : List Bool} {f : ℕ} (e : ℕ) (T : AccessTables nodes tables written) → Shown T.view.image part f ((tree_of T.view).end e)
+    → Marks T.view.image (written_in (tree_of T.view) e) marked → WritingBody part f tables marked
 body_of e T S M = record {
   writing = record {
     view = record { image = T.view.image; upto = (tree_of T.view).end e; shown = S };
@@ -34,7 +35,7 @@ body_of e T S M = record {
 }
 
 -- the tables with another that has no name marked
-abbrev pub cleaned : {nodes : List ℕ} {state writer written marked : List Bool} (T : AccessTables nodes state writer written) → Marks T.view.image (λ w. false) marked → AccessTables nodes state writer marked
+abbrev pub cleaned : {nodes : List ℕ} {tables : Tables} {written marked : List Bool} (T : AccessTables nodes tables written) → Marks T.view.image (λ w. false) marked → AccessTables nodes tables marked
 cleaned T M = record { view = T.view; root = T.root; state_marks = T.state_marks; writer_marks = T.writer_marks; clean = M }
 
 -- one sweep over the nodes of the statements is 51 in the entry
@@ -48,7 +49,7 @@ entry-51 {e = e} W i z k S =
 abbrev pub state-of : {nodes : List ℕ} {words : Words} {state : List Bool} → Looked nodes words state → State nodes 0 state
 state-of T = record { view = T.view; state_marks = T.state_marks }
 
-abbrev pub tables-of : {nodes : List ℕ} {words : Words} {state writer : List Bool} (T : Looked nodes words state) → ((s : List ℕ) → refusal s ≡ 0 → MethodsOf s words.methods → Marks s (λ w. false) (replicate 1024 false) → Marks s is_writer writer) → AccessTables nodes state writer (replicate 1024 false)
+abbrev pub tables-of : {nodes : List ℕ} {words : Words} {tables : Tables} (T : Looked nodes words tables.state.now) → ((s : List ℕ) → refusal s ≡ 0 → MethodsOf s words.methods → Marks s (λ w. false) (replicate 1024 false) → Marks s is_writer tables.writer.now) → AccessTables nodes tables (replicate 1024 false)
 tables-of T g =
     let s = T.view.image in
     let a = T.view.shown.admitted in

@@ -17,7 +17,14 @@ ghost use Rattle.access.specs.Seen.{AccessTables, Writing, WritingBody, seen_acc
 
 use image::Image;
 use names::{Methods, Words};
-use nodes::{ASSIGN, CALL, Cursor, ENTRY, IDENT, INVARIANT, Marks, Past, WRITES};
+use nodes::{ASSIGN, CALL, Children, ENTRY, IDENT, INVARIANT, Marks, Past, WRITES};
+
+// The tables that 51 only reads: the state names, and the words that write their base.
+#[derive(Clone, Copy)]
+struct Tables<'a> {
+    state: &'a Marks,
+    writer: &'a Marks,
+}
 
 // 50 at a node of an Invariant: an Ident that is no state name.
 fn rule50(nodes: &[u8], p: usize, state: &Marks) -> bool
@@ -40,10 +47,8 @@ fn invariant(nodes: &[u8], item: usize, state: &Marks, out: &mut [u16], count: u
     }
     let end = nodes::end(nodes, 0, item);
     let mut total = count;
-    let mut p = item + 1;
-    while p < end {
+    for p in item + 1..end {
         total = records::emit_if(rule50(nodes, p, state), out, total, 50, p, 0);
-        p += 1;
     }
     total
 }
@@ -53,16 +58,9 @@ fn group50(nodes: &[u8], state: &Marks, out: &mut [u16], count: usize) -> usize
     requires { State nodes.now 0 state.now × In nodes.now 0 0 × (count < 2 ^ 40) }
     ensures { Adds (seen group50 nodes.now 0 state.now) (2048 * 2048) out.old out.new count result }
 {
-    let to = nodes::end(nodes, 0, 0);
     let mut total = count;
-    let mut children = Cursor {
-        base: 0,
-        at: 1,
-        end: to,
-    };
-    while children.at < children.end {
-        total = invariant(nodes, children.at, state, out, total);
-        children = children.step(nodes).rest;
+    for item in Children::of(nodes, 0, 0) {
+        total = invariant(nodes, item, state, out, total);
     }
     total
 }
@@ -76,10 +74,8 @@ fn mark_clause(nodes: &[u8], clause: usize, on: bool, written: &mut Marks)
         return;
     }
     let end = nodes::end(nodes, 0, clause);
-    let mut p = clause + 1;
-    while p < end {
+    for p in clause + 1..end {
         nodes::mark(written, nodes, 0, p, on);
-        p += 1;
     }
 }
 
@@ -88,14 +84,8 @@ fn declared_writes(nodes: &[u8], entry: usize, to: usize, on: bool, written: &mu
     requires { Head nodes.now 0 entry to }
     ensures { Turns on (λ (W : View nodes.now 0). written_in (tree_of W) entry) written.old written.new }
 {
-    let mut children = Cursor {
-        base: 0,
-        at: entry + 1,
-        end: to,
-    };
-    while children.at < children.end {
-        mark_clause(nodes, children.at, on, written);
-        children = children.step(nodes).rest;
+    for clause in Children::heads(nodes, entry, to) {
+        mark_clause(nodes, clause, on, written);
     }
 }
 
@@ -118,24 +108,17 @@ fn is_write(nodes: &[u8], base: usize, x: usize, state: &Marks, written: &Marks)
 }
 
 // 51 at a node of an entry's statements: the target of an Assign, or the base of a Call that writes it.
-fn rule51(
-    nodes: &[u8],
-    base: usize,
-    p: usize,
-    state: &Marks,
-    writer: &Marks,
-    written: &Marks,
-) -> bool
-    requires { WritingBody nodes.now base state.now writer.now written.now × In nodes.now base p }
-    ensures { Asks (seen_in (at51 p) nodes.now base state.now writer.now written.now) 51 p result }
+fn rule51(nodes: &[u8], base: usize, p: usize, tables: Tables, written: &Marks) -> bool
+    requires { WritingBody nodes.now base tables written.now × In nodes.now base p }
+    ensures { Asks (seen_in (at51 p) nodes.now base tables.entry written.now) 51 p result }
 {
     match nodes::kind(nodes, base, p) {
-        ASSIGN => is_write(nodes, base, p + 1, state, written),
+        ASSIGN => is_write(nodes, base, p + 1, tables.state, written),
         CALL => {
-            if !nodes::is_field(nodes, base, p + 1, writer) {
+            if !nodes::is_field(nodes, base, p + 1, tables.writer) {
                 return false;
             }
-            is_write(nodes, base, p + 2, state, written)
+            is_write(nodes, base, p + 2, tables.state, written)
         }
         _ => false,
     }
@@ -146,28 +129,19 @@ fn statements(
     nodes: &[u8],
     base: usize,
     entry: usize,
-    state: &Marks,
-    writer: &Marks,
+    tables: Tables,
     written: &Marks,
     out: &mut [u16],
     count: usize,
 ) -> usize
-    requires { WritingBody nodes.now base state.now writer.now written.now × (count < 2 ^ 50) × (entry < 2048) }
-    ensures { Adds (in_part entry nodes.now base (swept51 nodes.now base state.now writer.now written.now)) 2048 out.old out.new count result }
+    requires { WritingBody nodes.now base tables written.now × (count < 2 ^ 50) × (entry < 2048) }
+    ensures { Adds (in_part entry nodes.now base (swept51 nodes.now base tables.entry written.now)) 2048 out.old out.new count result }
 {
     let end = base + nodes.len() / 16;
     let mut total = count;
-    let mut p = base;
-    while p < end {
-        total = records::emit_if(
-            rule51(nodes, base, p, state, writer, written),
-            out,
-            total,
-            51,
-            p,
-            entry,
-        );
-        p += 1;
+    for p in base..end {
+        let found = rule51(nodes, base, p, tables, written);
+        total = records::emit_if(found, out, total, 51, p, entry);
     }
     total
 }
@@ -176,15 +150,14 @@ fn statements(
 fn entry(
     nodes: &[u8],
     item: usize,
-    state: &Marks,
-    writer: &Marks,
+    tables: Tables,
     written: &mut Marks,
     out: &mut [u16],
     count: usize,
 ) -> usize
-    requires { AccessTables nodes.now state.now writer.now written.old × In nodes.now 0 item × (0 < item) × (count < 2 ^ 50) }
-    ensures adds { Adds (seen_access (item51 item) nodes.now state.now writer.now written.old) 2048 out.old out.new count result }
-    ensures cleans_written { CleansWritten nodes.now state.now writer.now written.old written.new }
+    requires { AccessTables nodes.now tables written.old × In nodes.now 0 item × (0 < item) × (count < 2 ^ 50) }
+    ensures adds { Adds (seen_access (item51 item) nodes.now tables.entry written.old) 2048 out.old out.new count result }
+    ensures cleans_written { CleansWritten nodes.now tables.entry written.old written.new }
 {
     if nodes::kind(nodes, 0, item) != ENTRY {
         return count;
@@ -192,7 +165,7 @@ fn entry(
     let first = items::first_statement(nodes, 0, item);
     declared_writes(nodes, item, first, true, written);
     let body = items::statements(nodes, 0, item, first);
-    let total = statements(body, first, item, state, writer, written, out, count);
+    let total = statements(body, first, item, tables, written, out, count);
     declared_writes(nodes, item, first, false, written);
     total
 }
@@ -200,25 +173,17 @@ fn entry(
 // 51: the entries in order.
 fn group51(
     nodes: &[u8],
-    state: &Marks,
-    writer: &Marks,
+    tables: Tables,
     written: &mut Marks,
     out: &mut [u16],
     count: usize,
 ) -> usize
-    requires { AccessTables nodes.now state.now writer.now written.old × (count < 2 ^ 40) }
-    ensures { Adds (seen_access group51 nodes.now state.now writer.now written.old) (2048 * 2048) out.old out.new count result }
+    requires { AccessTables nodes.now tables written.old × (count < 2 ^ 40) }
+    ensures { Adds (seen_access group51 nodes.now tables.entry written.old) (2048 * 2048) out.old out.new count result }
 {
-    let to = nodes::end(nodes, 0, 0);
     let mut total = count;
-    let mut children = Cursor {
-        base: 0,
-        at: 1,
-        end: to,
-    };
-    while children.at < children.end {
-        total = entry(nodes, children.at, state, writer, written, out, total);
-        children = children.step(nodes).rest;
+    for item in Children::of(nodes, 0, 0) {
+        total = entry(nodes, item, tables, written, out, total);
     }
     total
 }
@@ -246,5 +211,9 @@ pub fn list(nodes: &[u8], words: Words, state: &Marks, out: &mut [u16]) -> usize
     mark_writers(words.methods, &mut writer);
     let mut written = [false; Image::NAMES];
     let count = group50(nodes, state, out, 0);
-    group51(nodes, state, &writer, &mut written, out, count)
+    let tables = Tables {
+        state,
+        writer: &writer,
+    };
+    group51(nodes, tables, &mut written, out, count)
 }

@@ -9,7 +9,7 @@ ghost use Rattle.nodes.specs.Shown.{View, In, Shown, tree_of};
 ghost use Rattle.nodes.specs.First.{Starts, Body};
 ghost use Rattle.items.specs.Found.{ItemsOf};
 
-use nodes::{Cursor, ENTRY, EVENT, GENESIS};
+use nodes::{Children, ENTRY, EVENT, GENESIS};
 
 // Which items a contract has: an Event, a Genesis. Where it has none, what is asked of them is not asked.
 #[derive(Clone, Copy)]
@@ -18,20 +18,14 @@ pub struct Items {
     pub genesis: bool,
 }
 
-// Whether one of two holds.
-fn either(a: bool, b: bool) -> bool
-    ensures { result ≡ either a b }
-{
-    if a { true } else { b }
-}
-
 // With one more item, of kind k.
 fn with_item(items: Items, k: usize) -> Items
     ensures { (result.event ≡ either (eqb k 5) items.event) × (result.genesis ≡ either (eqb k 7) items.genesis) }
 {
-    let event = either(k == EVENT, items.event);
-    let genesis = either(k == GENESIS, items.genesis);
-    Items { event, genesis }
+    Items {
+        event: k == EVENT || items.event,
+        genesis: k == GENESIS || items.genesis,
+    }
 }
 
 // The items of a contract at a glance.
@@ -39,32 +33,22 @@ pub fn find_items(nodes: &[u8]) -> Items
     requires { View nodes.now 0 × In nodes.now 0 0 }
     ensures { ItemsOf nodes.now result }
 {
-    let to = nodes::end(nodes, 0, 0);
     let mut items = Items {
         event: false,
         genesis: false,
     };
-    let mut children = Cursor {
-        base: 0,
-        at: 1,
-        end: to,
-    };
-    while children.at < children.end {
-        items = with_item(items, nodes::kind(nodes, 0, children.at));
-        children = children.step(nodes).rest;
+    for item in Children::of(nodes, 0, 0) {
+        items = with_item(items, nodes::kind(nodes, 0, item));
     }
     items
 }
 
 // Genesis and Entry, the items that hold statements.
+#[tactic(auto, using(std::proofs::lemmas::Bool::Decides::nat_tests), unfolding(rules::specs::Sweep::has))]
 pub fn is_bodied(k: usize) -> bool
     ensures { result ≡ has k bodied }
 {
-    match k {
-        GENESIS => true,
-        ENTRY => true,
-        _ => false,
-    }
+    matches!(k, GENESIS | ENTRY)
 }
 
 // The entry that the nodes of an item of kind k stand in: the item itself, if it is an Entry; else none, 0.
@@ -74,13 +58,11 @@ pub fn entry_of(k: usize, item: usize) -> usize
     if k == ENTRY { item } else { 0 }
 }
 
+#[tactic(auto, using(std::proofs::lemmas::Bool::Decides::nat_tests), unfolding(rules::specs::Sweep::has))]
 pub fn is_statement(k: usize) -> bool
     ensures { result ≡ has k statement }
 {
-    match k {
-        24..=28 => true,
-        _ => false,
-    }
+    matches!(k, 24..=28)
 }
 
 // The first statement of an entry, found child by child; the entry's end if it has none.
@@ -88,20 +70,12 @@ pub fn first_statement(nodes: &[u8], base: usize, entry: usize) -> usize
     requires { View nodes.now base × In nodes.now base entry × (0 < entry) }
     ensures { (W : View nodes.now base) → Starts W entry result }
 {
-    let to = nodes::end(nodes, base, entry);
-    let mut children = Cursor {
-        base,
-        at: entry + 1,
-        end: to,
-    };
-    while children.at < children.end {
-        let p = children.at;
-        if is_statement(nodes::kind(nodes, base, p)) {
-            return p;
+    for child in Children::of(nodes, base, entry) {
+        if is_statement(nodes::kind(nodes, base, child)) {
+            return child;
         }
-        children = children.step(nodes).rest;
     }
-    children.at
+    nodes::end(nodes, base, entry)
 }
 
 // The statements of an entry, from the first one on, as their own part of the node area.

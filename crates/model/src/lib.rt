@@ -12,7 +12,7 @@ ghost use Rattle.model.specs.Questions.{question_of, of_no_name};
 ghost use Rattle.model.specs.Assets.{Assets, AssetWords, TypesEnd, Inside, Gains, Knows, inside_at, inside_item, inside};
 
 use image::Image;
-use nodes::{ASSET, Cursor, ENTRY, FIELD_DECL, Marks, TYPE};
+use nodes::{ASSET, Children, Declarations, ENTRY, FIELD_DECL, Marks, TYPE};
 
 // The questions about a name.
 #[derive(Clone, Copy)]
@@ -27,11 +27,8 @@ fn mark_names(kind: usize, nodes: &[u8], marks: &mut Marks)
     requires { Declaring kind × View nodes.now 0 × In nodes.now 0 0 }
     ensures { Turns true (λ (W : View nodes.now 0). declares (tree_of W) (kind ∷ []) 0) marks.old marks.new }
 {
-    let end = nodes::end(nodes, 0, 0);
-    let mut p = 1;
-    while p < end {
-        nodes::mark_name(kind, nodes, p, true, marks);
-        p = nodes::next_declaration(nodes, 0, p);
+    for declaration in Declarations::of(nodes) {
+        nodes::mark_name(kind, nodes, declaration, true, marks);
     }
 }
 
@@ -99,6 +96,7 @@ fn mark_item(nodes: &[u8], item: usize, asset: usize, known: &mut Marks)
     ensures { Gains (λ (A : Assets nodes.now asset). inside_item item A) known.old known.new }
 {
     let to = types_end(nodes, item);
+    // A `while`, since this is the only walk over types: an iterator for one loop would be no plainer.
     let mut p = item;
     while p < to {
         mark_inner(nodes, p, asset, known);
@@ -111,15 +109,8 @@ fn mark_inners(nodes: &[u8], asset: usize, known: &mut Marks)
     requires { Assets nodes.now asset × In nodes.now 0 0 }
     ensures { Gains (λ (A : Assets nodes.now asset). inside A) known.old known.new }
 {
-    let to = nodes::end(nodes, 0, 0);
-    let mut children = Cursor {
-        base: 0,
-        at: 1,
-        end: to,
-    };
-    while children.at < children.end {
-        mark_item(nodes, children.at, asset, known);
-        children = children.step(nodes).rest;
+    for item in Children::of(nodes, 0, 0) {
+        mark_item(nodes, item, asset, known);
     }
 }
 
@@ -163,8 +154,7 @@ fn of_no_name(question: Question, word: &[u8]) -> bool
     ensures { result ≡ of_no_name question word.now }
 {
     match question {
-        Question::State => false,
-        Question::Declared => false,
+        Question::State | Question::Declared => false,
         Question::Known => names::equal(word, b"QTOV"),
     }
 }

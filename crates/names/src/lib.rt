@@ -13,20 +13,11 @@ use image::Image;
 use nodes::Marks;
 
 // Whether two byte strings are equal: names are equal only when their bytes are.
+#[tactic(auto, using(crate::proofs::Bytes::eq_same))]
 pub fn equal(v: &[u8], w: &[u8]) -> bool
     ensures { result ≡ same v.now w.now }
 {
-    if v.len() != w.len() {
-        return false;
-    }
-    let mut k = 0;
-    while k < v.len() {
-        if v[k] != w[k] {
-            return false;
-        }
-        k += 1;
-    }
-    true
+    v == w
 }
 
 // The bytes of the name at place k, from 0.
@@ -47,6 +38,7 @@ fn count_before(image: &[u8], head: Image, name_text: &[u8]) -> usize
     requires { Admitted image.now head }
     ensures { Parted image.now name_text.now result }
 {
+    // A loop, since the searches of the library go over the elements of a slice, and the names are none.
     let mut low = 0;
     let mut high = head.names;
     while low < high {
@@ -124,15 +116,11 @@ fn find_builtins(image: &[u8], head: Image) -> Builtins
     requires { Admitted image.now head }
     ensures { BuiltinsOf image.now result }
 {
-    let send = number_of(image, head, b"send");
-    let send_asset = number_of(image, head, b"send_asset");
-    let mint = number_of(image, head, b"mint");
-    let mint_asset = number_of(image, head, b"mint_asset");
     Builtins {
-        send,
-        send_asset,
-        mint,
-        mint_asset,
+        send: number_of(image, head, b"send"),
+        send_asset: number_of(image, head, b"send_asset"),
+        mint: number_of(image, head, b"mint"),
+        mint_asset: number_of(image, head, b"mint_asset"),
     }
 }
 
@@ -140,25 +128,16 @@ fn find_methods(image: &[u8], head: Image) -> Methods
     requires { Admitted image.now head }
     ensures { MethodsOf image.now result }
 {
-    let get = number_of(image, head, b"get");
-    let contains = number_of(image, head, b"contains");
-    let split = number_of(image, head, b"split");
-    let set = number_of(image, head, b"set");
-    let remove = number_of(image, head, b"remove");
-    let merge = number_of(image, head, b"merge");
-    let insert = number_of(image, head, b"insert");
-    let debit = number_of(image, head, b"debit");
-    let credit = number_of(image, head, b"credit");
     Methods {
-        get,
-        contains,
-        split,
-        set,
-        remove,
-        merge,
-        insert,
-        debit,
-        credit,
+        get: number_of(image, head, b"get"),
+        contains: number_of(image, head, b"contains"),
+        split: number_of(image, head, b"split"),
+        set: number_of(image, head, b"set"),
+        remove: number_of(image, head, b"remove"),
+        merge: number_of(image, head, b"merge"),
+        insert: number_of(image, head, b"insert"),
+        debit: number_of(image, head, b"debit"),
+        credit: number_of(image, head, b"credit"),
     }
 }
 
@@ -167,21 +146,14 @@ pub fn find_words(image: &[u8], head: Image) -> Words
     requires { Admitted image.now head }
     ensures { WordsOf image.now result }
 {
-    let builtins = find_builtins(image, head);
-    let methods = find_methods(image, head);
-    let has = number_of(image, head, b"has");
-    let deployer = number_of(image, head, b"deployer");
-    let asset = number_of(image, head, b"Q_Asset");
-    let address = number_of(image, head, b"Q_Address");
-    let qtov = number_of(image, head, b"QTOV");
     Words {
-        builtins,
-        methods,
-        has,
-        deployer,
-        asset,
-        address,
-        qtov,
+        builtins: find_builtins(image, head),
+        methods: find_methods(image, head),
+        has: number_of(image, head, b"has"),
+        deployer: number_of(image, head, b"deployer"),
+        asset: number_of(image, head, b"Q_Asset"),
+        address: number_of(image, head, b"Q_Address"),
+        qtov: number_of(image, head, b"QTOV"),
     }
 }
 

@@ -14,7 +14,7 @@ use Rattle.rules.specs.Tree.{statement}
 use Rattle.rules.specs.Vocabulary.{Rec, below}
 use Rattle.records.specs.Records.{Added}
 use Rattle.records.proofs.Sweep.{run-sooner, run-below, keep-none}
-use Rattle.nodes.specs.Shown.{View, tree_of}
+use Rattle.nodes.specs.Shown.{View, In, tree_of}
 use Rattle.nodes.specs.First.{heads, Starts, Head, Until}
 use Rattle.nodes.proofs.Parts.{kind-is, end_is}
 use Rattle.nodes.proofs.Shapes.{all_in, not_in, one_in, no_part, within, ends-within, skips-parts}
@@ -37,6 +37,10 @@ no-head k l =
       ne_eqb k 20 (λ d. omega arith),
       ne_eqb k 21 (λ d. omega arith),
     )
+
+-- an entry's head, from what was read of the entry
+abbrev pub head-at : {part : List ℕ} {b e to k : ℕ} (W : View part b) → In part b e → 0 < e → ((W : View part b) → k ≡ (tree_of W).kind e) → k ≡ 9 → ((W : View part b) → Starts W e to) → Head part b e to
+head-at W i z f k s = record { view = W; here = i; positive = z; is_entry = sym (f W) ∙ k; first = s W }
 
 no-part-head : (k : ℕ) → has k parts ≡ false → has k heads ≡ false
 unfolding all_in has

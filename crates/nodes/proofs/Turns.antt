@@ -43,6 +43,10 @@ numbered D f = let g = ranged D.view D.here D.carries in let e = f D.view in (om
 pub named-at : {part : List ℕ} {b p k : ℕ} (W : View part b) → In part b p → NameFirst k → (tree_of W).kind p ≡ k → Worded part b (p + 1)
 named-at W i f e = let n = named-first W i (subst NameFirst (sym e) f) in record { view = W; here = n.0; carries = inl n.1 }
 
+-- the number of the Name of a node of kind k, from what was read of the node
+pub named-number : {part : List ℕ} {b p k q x : ℕ} (W : View part b) → In part b p → NameFirst k → ((W : View part b) → q ≡ (tree_of W).kind p) → q ≡ k → ((W : View part b) → x ≡ number W.image (p + 1)) → (1 ≤ x) × (x ≤ 1024)
+named-number W i f d e = numbered (named-at W i f (sym (d W) ∙ e))
+
 -- marks set in a table that has none, and taken off again
 pub set-fresh : {s : List ℕ} {Q : List ℕ → Bool} {r : List Bool} → Marks s (λ w. marking true false (Q w)) r → Marks s Q r
 unfolding marking

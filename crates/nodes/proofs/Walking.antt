@@ -9,7 +9,6 @@ use Rattle.rules.specs.Vocabulary.{some_below}
 use Rattle.nodes.specs.Shown.{View, In, tree_of}
 use Rattle.nodes.specs.Table.{Changed}
 use Rattle.nodes.specs.Marks.{marking, Turned}
-use Rattle.nodes.proofs.Shapes.{within}
 use Rattle.nodes.proofs.Spans.{Span, span_below}
 use Rattle.nodes.proofs.Folding.{Folding, folding-starts, folding-on}
 use Rattle.nodes.proofs.Marking.{marking-none, marking-done, marks-below}

@@ -1,7 +1,9 @@
 -- Children of a node in a lent part, one after another: where a walk over them stands, and what one step of it gives.
-use Rattle.std.specs.Prelude.{ℕ, ◌+◌, ◌*◌, ◌-◌, ◌<◌, ◌≤◌, ◌≡◌, List, length}
+use Rattle.std.specs.Prelude.{ℕ, ◌*◌, ◌-◌, ◌<◌, ◌≤◌, ◌≡◌, List, length}
 use Rattle.image.specs.Maxima.{max_nodes}
 use Rattle.image.specs.Node.{end_of}
+use Rattle.rules.specs.Tree.{state}
+use Rattle.nodes.specs.Walk.{onward}
 use Rattle.nodes.specs.Shown.{View, In, tree_of}
 
 -- the nodes from `at` up to `to` all stand in the part, and none of them reaches past `to`
@@ -21,6 +23,13 @@ pub record Stepped (part : List ℕ) (b at to child at' : ℕ) : Type 0 where
   pub before : at < to
   pub here : In part b child
   pub moved : (W : View part b) → at' ≡ (tree_of W).end child
+
+-- a walk over the items and the fields of a contract gives the one that it stood at, and stands at the next
+pub record Visited (part : List ℕ) (at to p at' : ℕ) : Type 0 where
+  pub is : p ≡ at
+  pub before : at < to
+  pub here : In part 0 p
+  pub moved : (W : View part 0) → at' ≡ onward (tree_of W) state p
 
 -- a walk over this part begins at this node
 pub record Begun (part : List ℕ) (b at : ℕ) (part' : List ℕ) (b' at' : ℕ) : Type 0 where

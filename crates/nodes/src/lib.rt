@@ -16,7 +16,7 @@ ghost use Rattle.nodes.specs.Cursors.{Stepped};
 mod walk;
 
 use image::Image;
-pub use walk::Children;
+pub use walk::{Children, Declarations};
 
 // One mark for each of 1,024 names, by name number less one.
 pub type Marks = [bool; Image::NAMES];
@@ -167,14 +167,8 @@ pub fn mark_parts(sort: usize, nodes: &[u8], entry: usize, to: usize, on: bool, 
     requires { HeadPart sort × Head nodes.now 0 entry to }
     ensures { Turns on (λ (W : View nodes.now 0) w. some_below (tree_of W) (sort ∷ []) entry (named (tree_of W) w)) marks.old marks.new }
 {
-    let mut children = Cursor {
-        base: 0,
-        at: entry + 1,
-        end: to,
-    };
-    while children.at < children.end {
-        mark_name(sort, nodes, children.at, on, marks);
-        children = children.step(nodes).rest;
+    for part in Children::heads(nodes, entry, to) {
+        mark_name(sort, nodes, part, on, marks);
     }
 }
 
@@ -187,28 +181,21 @@ pub enum Past {
 }
 
 // Checked and Wrapping.
+#[tactic(auto, using(std::proofs::lemmas::Bool::Decides::nat_tests), unfolding(rules::specs::Sweep::has))]
 fn is_peel(k: usize) -> bool
     ensures { result ≡ has k peels }
 {
-    match k {
-        44 => true,
-        45 => true,
-        _ => false,
-    }
+    matches!(k, 44 | 45)
 }
 
+#[tactic(auto, using(std::proofs::lemmas::Bool::Decides::nat_tests), unfolding(rules::specs::Sweep::has))]
 fn is_past(past: Past, k: usize) -> bool
     ensures { result ≡ has k (taken_off past) }
 {
     match past {
         Past::Peels => is_peel(k),
         Past::Fields => k == FIELD,
-        Past::Both => {
-            if k == FIELD {
-                return true;
-            }
-            is_peel(k)
-        }
+        Past::Both => k == FIELD || is_peel(k),
     }
 }
 
@@ -218,14 +205,12 @@ pub fn down(past: Past, nodes: &[u8], base: usize, x: usize) -> usize
     ensures { (x ≤ result) × ((W : View nodes.now base) → result ≡ down (tree_of W) (taken_off past) x) }
 {
     let to = end(nodes, base, x);
-    let mut r = x;
-    while r < to {
+    for r in x..to {
         if !is_past(past, kind(nodes, base, r)) {
             return r;
         }
-        r += 1;
     }
-    r
+    to
 }
 
 // The next node of a walk over the items and the fields of a contract: into a State, past any other node.
@@ -240,17 +225,11 @@ pub fn next_declaration(nodes: &[u8], base: usize, p: usize) -> usize
 }
 
 // The kinds that may hold a Type.
+#[tactic(auto, using(std::proofs::lemmas::Bool::Decides::nat_tests), unfolding(rules::specs::Sweep::has))]
 fn is_type_holder(k: usize) -> bool
     ensures { result ≡ has k type_holders }
 {
-    match k {
-        STATE => true,
-        FIELD_DECL => true,
-        ENTRY => true,
-        PARAM => true,
-        TYPE => true,
-        _ => false,
-    }
+    matches!(k, STATE | FIELD_DECL | ENTRY | PARAM | TYPE)
 }
 
 // The next node of a walk over the types of a contract: into what may hold one, past any other node.

@@ -1,7 +1,9 @@
 // The children of a node, one after another: the one place where a walk goes from child to child.
 ghost use Rattle.std.specs.Prelude.{◌≡◌, ℕ, ◌+◌, ◌-◌, ◌<◌, MatchOption};
 ghost use Rattle.std.specs.Iterator.{at_most};
-ghost use Rattle.nodes.specs.Chain.{Chain, Ended, Stepped, Begun};
+ghost use Rattle.rules.specs.Tree.{state};
+ghost use Rattle.nodes.specs.Chain.{Chain, Ended, Stepped, Begun, Visited};
+ghost use Rattle.nodes.specs.Walk.{onward};
 ghost use Rattle.nodes.specs.Shown.{View, In, tree_of};
 ghost use Rattle.nodes.specs.First.{Head, Until};
 
@@ -87,5 +89,46 @@ impl<'a> Children<'a> {
             at: base,
             to: base + nodes.len() / 16,
         }
+    }
+}
+
+// The items and the fields of a contract that stand from `at` up to `to`: a walk that goes into a State, and past any other node.
+#[derive(Drop)]
+pub struct Declarations<'a> {
+    pub nodes: &'a [u8],
+    pub at: usize,
+    pub to: usize,
+    pub ghost chain: { Chain nodes.now 0 at to },
+}
+
+impl<'a> Iterator for Declarations<'a> {
+    type Item = usize;
+
+    ghost next_gives = { λ s r t. (t.nodes.now ≡ s.nodes.now) × (t.to ≡ s.to) × MatchOption r (Ended s.at s.to) (λ p. Visited s.nodes.now s.at s.to p t.at) };
+
+    ghost remaining = { λ s. at_most (s.to - s.at) };
+
+    fn next(&mut self) -> Option<usize> {
+        if self.to <= self.at {
+            return None;
+        }
+        let p = self.at;
+        if crate::kind(self.nodes, 0, p) == crate::STATE {
+            self.at = p + 1;
+            return Some(p);
+        }
+        self.at = image::end(self.nodes, p);
+        Some(p)
+    }
+}
+
+impl<'a> Declarations<'a> {
+    // All items and fields of the contract.
+    pub fn of(nodes: &'a [u8]) -> Declarations<'a>
+        requires { View nodes.now 0 × In nodes.now 0 0 }
+        ensures { (result.nodes.now ≡ nodes.now) × (result.at ≡ 1) × ((W : View nodes.now 0) → result.to ≡ (tree_of W).end 0) }
+    {
+        let to = crate::end(nodes, 0, 0);
+        Declarations { nodes, at: 1, to }
     }
 }

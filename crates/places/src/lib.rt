@@ -7,7 +7,7 @@ ghost use Rattle.nodes.specs.First.{NameFirst, Declaring, NamedPart, HeadPart, H
 ghost use Rattle.places.specs.Places.{Places, Notes, taken, noting, notes_below, is_named};
 
 use image::Image;
-use nodes::Cursor;
+use nodes::{Children, Declarations};
 
 // One node for each of 1,024 names, by name number less one; 0 where there is none.
 pub type Places = [u16; Image::NAMES];
@@ -29,17 +29,13 @@ pub fn at(places: &Places, nodes: &[u8], base: usize, p: usize) -> usize
     usize::from(places[x - 1])
 }
 
+#[tactic(auto, using(std::proofs::lemmas::Bool::Decides::nat_tests))]
 pub fn taken(note: Note, was: u16, p: u16) -> u16
     ensures { result ≡ taken note was p }
 {
     match note {
-        Note::First => {
-            if was == 0 {
-                return p;
-            }
-            was
-        }
-        Note::Last => p,
+        Note::First if was != 0 => was,
+        Note::First | Note::Last => p,
         Note::Off => 0,
     }
 }
@@ -50,8 +46,8 @@ fn note_node(note: Note, kind: usize, nodes: &[u8], p: usize, places: &mut Place
     ensures { Notes (λ (W : View nodes.now 0) w v. noting note v (is_named (tree_of W) (kind ∷ []) w p) p) places.old places.new }
 {
     if nodes::kind(nodes, 0, p) == kind {
-        let i = nodes::name(nodes, 0, p + 1) - 1;
-        places[i] = taken(note, places[i], p as u16);
+        let place = &mut places[nodes::name(nodes, 0, p + 1) - 1];
+        *place = taken(note, *place, p as u16);
     }
 }
 
@@ -60,11 +56,8 @@ pub fn note_names(note: Note, kind: usize, nodes: &[u8], places: &mut Places)
     requires { Declaring kind × View nodes.now 0 × In nodes.now 0 0 }
     ensures { Notes (λ (W : View nodes.now 0). notes_below note (tree_of W) (kind ∷ []) 0) places.old places.new }
 {
-    let end = nodes::end(nodes, 0, 0);
-    let mut p = 1;
-    while p < end {
-        note_node(note, kind, nodes, p, places);
-        p = nodes::next_declaration(nodes, 0, p);
+    for declaration in Declarations::of(nodes) {
+        note_node(note, kind, nodes, declaration, places);
     }
 }
 
@@ -73,14 +66,8 @@ fn note_until(note: Note, kind: usize, nodes: &[u8], entry: usize, to: usize, pl
     requires { NamedPart kind × Until nodes.now 0 entry to kind }
     ensures { Notes (λ (W : View nodes.now 0). notes_below note (tree_of W) (kind ∷ []) entry) places.old places.new }
 {
-    let mut children = Cursor {
-        base: 0,
-        at: entry + 1,
-        end: to,
-    };
-    while children.at < children.end {
-        note_node(note, kind, nodes, children.at, places);
-        children = children.step(nodes).rest;
+    for part in Children::until(nodes, entry, to) {
+        note_node(note, kind, nodes, part, places);
     }
 }
 

@@ -2,25 +2,27 @@
 use native.Mathlib.Omega.{arith}
 use mathlib.Core.Path.{refl}
 use Rattle.rules.specs.Sweep.{has}
-use Rattle.nodes.proofs.Cursors.{before_last, past-last, still-over, on-to}
+use Rattle.nodes.proofs.Iterated.{begun-to, at-first, turn, ended}
 use Rattle.nodes.proofs.Walking.{marks-done}
 use Rattle.nodes.proofs.Marking.{marking-none}
-use Rattle.nodes.proofs.Until.{one_end, until-starts, until-moves, until-walks, until-done}
+use Rattle.nodes.proofs.Until.{one_end, until-starts, until-walks, until-done}
 use Rattle.nodes.proofs.Head.{until-head}
 use Rattle.access.proofs.declared_writes.Goals as goal
 
-pub loop-children-init : goal.loop-children-init
+pub loop-clause-init : goal.loop-clause-init
 unfolding has
-loop-children-init c = (record { part = refl; last = refl }, until-starts (until-head c.requires 14 refl) (λ v i. marking-none _ v))
+loop-clause-init c =
+    let e = c.into_iter-clause-iterator.ensures.into_iter_gives in
+    let b = c.heads-clause-items.ensures in
+    (begun-to e b.0 b.1, rw (at-first e b.0) (until-starts (until-head c.requires 14 refl) (λ v i. marking-none _ v)))
 
-pub loop-children-smaller : goal.loop-children-smaller
+pub loop-clause-preserved : goal.loop-clause-preserved
 unfolding has
-loop-children-smaller c = let i = c.loop-children.invariant in let m = until-moves (until-head c.requires 14 refl) i.1 (before_last i.0 c.loop-children-test.true) (on-to i.0 c.step.ensures) in omega arith
-
-pub loop-children-preserved : goal.loop-children-preserved
-unfolding has
-loop-children-preserved c = let i = c.loop-children.invariant in (still-over i.0 c.step.ensures, until-walks (until-head c.requires 14 refl) i.1 refl (before_last i.0 c.loop-children-test.true) (on-to i.0 c.step.ensures) c.mark_clause.ensures)
+loop-clause-preserved c =
+    let i = c.loop-clause.invariant in
+    let t = turn i.0 c.in-Some.ensures.steps in
+    (t.still, until-walks (until-head c.requires 14 refl) (rw (← t.is) at i.1) refl t.before t.moved c.mark_clause.ensures)
 
 pub returns : goal.returns
 unfolding has
-returns c = let i = c.loop-children.invariant in let N = until-head c.requires 14 refl in marks-done (one_end N) (until-done N i.1 (past-last i.0 c.loop-children-test.false)) (omega arith)
+returns c = let i = c.loop-clause.invariant in let N = until-head c.requires 14 refl in marks-done (one_end N) (until-done N i.1 (ended i.0 c.in-None.ensures.steps.3)) (omega arith)

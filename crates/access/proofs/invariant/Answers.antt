@@ -27,9 +27,6 @@ loop-p-preserved c =
     none-holds W c.requires.1 c.requires.3 8 refl refl (sym (c.kind.ensures W) ∙ c.if-kind-ne-INVARIANT.false) _ (omega arith) (omega arith) in
     let i = c.loop-p.invariant in (i.0, sweep-again i.1 (asked (λ T. T) 50 _ (no-entry) _ c.rule50.ensures c.emit_if-total.ensures) c.loop-p-test.true)
 
-pub shape_of-out : goal.shape_of-out
-shape_of-out c = sweep-long c.loop-p.invariant.1 c.requires.0
-
 pub returns : goal.returns
 returns c =
     let S = c.loop-p.invariant.0 in

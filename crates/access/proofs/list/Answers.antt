@@ -12,9 +12,3 @@ group51-requires c = let f = c.group50-count.ensures.few in (tables-of c.require
 pub returns : goal.returns
 unfolding access
 returns c = added-join (added-by state-of (λ _. refl) c.group50-count.ensures) (added-by (λ T. tables-of T c.mark_writers.ensures) (λ _. refl) c.group51.ensures)
-
-pub mark_writers-requires : goal.mark_writers-requires
-mark_writers-requires c = let T = c.requires in (T.view.image, T.view.shown.admitted, T.words_are.methods_are)
-
-pub group50-count-requires : goal.group50-count-requires
-group50-count-requires c = (state-of c.requires, c.requires.root, omega arith)

@@ -1,5 +1,4 @@
 -- `mark_clause` meets its contract: a clause of another kind is left out, and all below a Writes clause are Names.
-use Prim.Native.Nat.{◌-◌}
 use Rattle.rules.specs.Sweep.{same}
 use Rattle.rules.specs.Tree.{name}
 use Rattle.nodes.specs.Shown.{View, tree_of}
@@ -8,6 +7,3 @@ use Rattle.access.proofs.mark_clause.Given as goal
 
 abbrev pub invariant-loop-p : goal.invariant-loop-p
 invariant-loop-p l = Walking l.on (λ (W : View l.nodes 0). W) name (λ W w n. same ((tree_of W).text n) w) l.clause l.end l.initial.written l.written l.p
-
-abbrev pub decreases-loop-p : goal.decreases-loop-p
-decreases-loop-p l = l.end - l.p

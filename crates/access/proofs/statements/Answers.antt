@@ -9,13 +9,10 @@ pub overflow_add-end : goal.overflow_add-end
 overflow_add-end c = let W = c.requires.0.writing.view in let u = (span-whole W (upto_is W)).under in omega arith
 
 pub loop-p-preserved : goal.loop-p-preserved
-loop-p-preserved c = let i = c.loop-p.invariant in (i.0, sweep-again i.1 (asked (λ h. h.seen) 51 _ (λ h. h.held _ i.1.low c.loop-p-test.true) _ c.rule51.ensures c.emit_if-total.ensures) c.loop-p-test.true)
+loop-p-preserved c = let i = c.loop-p.invariant in (i.0, sweep-again i.1 (asked (λ h. h.seen) 51 _ (λ h. h.held _ i.1.low c.loop-p-test.true) _ c.rule51-found.ensures c.emit_if-total.ensures) c.loop-p-test.true)
 
 pub loop-p-init : goal.loop-p-init
 loop-p-init c = whole-starts c.requires.0.writing.view
-
-pub shape_of-out : goal.shape_of-out
-shape_of-out c = sweep-long c.loop-p.invariant.1 (held_all _ c.requires.0)
 
 pub returns : goal.returns
 returns c = whole-swept (λ h. h.seen.writing.view) c.loop-p.invariant c.loop-p-test.false

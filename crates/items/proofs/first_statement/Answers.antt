@@ -1,37 +1,50 @@
 -- `first_statement` meets its contract: no child before the one at hand is a statement.
 use native.Mathlib.Omega.{arith}
-use Prim.Native.Nat.{ℕ, ◌<◌, ◌≤◌}
-use mathlib.Core.Path.{◌≡◌, refl, sym, ap, ◌∙◌}
+use Prim.Native.Nat.{ℕ}
+use mathlib.Core.Path.{◌≡◌, sym, ap, ◌∙◌}
+use mathlib.Core.Bool.{true, false}
 use Rattle.rules.specs.Sweep.{has}
 use Rattle.rules.specs.Tree.{statement as statements}
 use Rattle.nodes.specs.Shown.{View, tree_of}
 use Rattle.nodes.proofs.Spans.{span_below, child-on}
 use Rattle.nodes.proofs.Flat.{none-on, starts}
-use Rattle.nodes.proofs.Cursors.{before_last, past-last, still-over, on-to}
+use Rattle.nodes.proofs.Iterated.{begun, at-first, ends-at, turn, ended}
 use Rattle.items.proofs.first_statement.Goals as goal
 
-pub loop-children-init : goal.loop-children-init
-loop-children-init c = let S = span_below c.requires.0 c.requires.1 (c.end-to.ensures c.requires.0) in (record { part = refl; last = refl }, S, omega arith, S.order, λ W i a b. absurd (omega arith))
+pub loop-child-init : goal.loop-child-init
+loop-child-init c =
+    let W = c.requires.0 in
+    let e = c.into_iter-child-iterator.ensures.into_iter_gives in
+    let b = c.of-child-items.ensures in
+    let f = at-first e b.0 in
+    let S = span_below W c.requires.1 (ends-at c.args.entry e b.1 W) in
+    let o = S.order in
+    (begun e b.0, S, omega arith, omega arith, λ W i a b. absurd (omega arith))
 
 pub returns-then-is_statement : goal.returns-then-is_statement
 returns-then-is_statement c =
-    let told : (W : View c.args.nodes.now c.args.base) → has ((tree_of W).kind c.loop-children.children.at) statements ≡ c.is_statement.result = λ W. ap (λ (k : ℕ). has k statements) (sym (c.kind.ensures W)) ∙ sym c.is_statement.ensures in
-    let i = c.loop-children.invariant in λ W. starts W i.2 (c.end-to.ensures W) i.3 (i.4 W) (λ _. told W ∙ c.if-is_statement.true)
+    let i = c.loop-child.invariant in
+    let t = turn {t = c.next.new.self} i.0 c.in-Some.ensures.steps in
+    let d = ends-at c.args.entry c.into_iter-child-iterator.ensures.into_iter_gives c.of-child-items.ensures.1 in
+    let told : (W : View c.args.nodes.now c.args.base) → has ((tree_of W).kind c.in-Some.child) statements ≡ true = λ W. ap (λ (k : ℕ). has k statements) (sym (c.kind.ensures W)) ∙ sym c.is_statement.ensures ∙ c.if-is_statement.true in
+    λ W. starts W (rw (← t.is) at i.2) (d W) (rw (← t.is) at i.3) (rw (← t.is) at (i.4 W)) (λ _. told W)
 
-pub loop-children-smaller : goal.loop-children-smaller
-loop-children-smaller c =
-    let moved : (c.loop-children.children.at < c.step.result.rest.at) × (c.step.result.rest.at ≤ c.end-to.result) = let W = c.requires.0 in let i = c.loop-children.invariant in child-on W c.requires.1 (c.end-to.ensures W) i.2 (before_last i.0 c.loop-children-test.true) (on-to i.0 c.step.ensures W) in
-    let m = moved in omega arith
-
-pub loop-children-preserved : goal.loop-children-preserved
-loop-children-preserved c =
-    let told : (W : View c.args.nodes.now c.args.base) → has ((tree_of W).kind c.loop-children.children.at) statements ≡ c.is_statement.result = λ W. ap (λ (k : ℕ). has k statements) (sym (c.kind.ensures W)) ∙ sym c.is_statement.ensures in
-    let moved : (c.loop-children.children.at < c.step.result.rest.at) × (c.step.result.rest.at ≤ c.end-to.result) = let W = c.requires.0 in let i = c.loop-children.invariant in child-on W c.requires.1 (c.end-to.ensures W) i.2 (before_last i.0 c.loop-children-test.true) (on-to i.0 c.step.ensures W) in
-    let i = c.loop-children.invariant in
-    let m = moved in
-    let o = on-to i.0 c.step.ensures in
-    let l = before_last i.0 c.loop-children-test.true in
-    (still-over i.0 c.step.ensures, i.1, omega arith, m.1, λ W. none-on W c.requires.1 c.requires.2 i.2 (let e = c.end-to.ensures W in omega arith) (i.4 W) (told W ∙ c.if-is_statement.false) (o W))
+pub loop-child-preserved : goal.loop-child-preserved
+loop-child-preserved c =
+    let i = c.loop-child.invariant in
+    let t = turn i.0 c.in-Some.ensures.steps in
+    let d = ends-at c.args.entry c.into_iter-child-iterator.ensures.into_iter_gives c.of-child-items.ensures.1 in
+    let told : (W : View c.args.nodes.now c.args.base) → has ((tree_of W).kind c.in-Some.child) statements ≡ false = λ W. ap (λ (k : ℕ). has k statements) (sym (c.kind.ensures W)) ∙ sym c.is_statement.ensures ∙ c.if-is_statement.false in
+    let W = c.requires.0 in
+    let l = rw (← t.is) at i.2 in
+    let m = child-on W c.requires.1 (d W) l t.before (t.moved W) in
+    (t.still, i.1, omega arith, m.1, λ W. none-on W c.requires.1 c.requires.2 l (let e = d W in let h = t.before in omega arith) (rw (← t.is) at (i.4 W)) (told W) (t.moved W))
 
 pub returns : goal.returns
-returns c = let i = c.loop-children.invariant in λ W. let e = c.end-to.ensures W in let l = past-last i.0 c.loop-children-test.false in starts W i.2 e i.3 (i.4 W) (λ h. absurd (omega arith))
+returns c =
+    let i = c.loop-child.invariant in
+    let d = ends-at c.args.entry c.into_iter-child-iterator.ensures.into_iter_gives c.of-child-items.ensures.1 in
+    let l = ended i.0 c.in-None.ensures.steps.3 in
+    let W = c.requires.0 in
+    let z : c.loop-child.child-iterator.at ≡ c.end.result = let e = d W in let f = c.end.ensures W in let h = i.3 in omega arith in
+    λ W. starts W (rw z at i.2) (c.end.ensures W) (omega arith) (rw z at (i.4 W)) (λ h. absurd (omega arith))

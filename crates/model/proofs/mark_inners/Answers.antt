@@ -1,40 +1,35 @@
 -- `mark_inners` meets its contract: a walk from item to item.
 use native.Mathlib.Omega.{arith}
-use Prim.Native.Nat.{◌<◌, ◌≤◌}
-use mathlib.Core.Path.{refl}
-use Rattle.nodes.specs.Shown.{In}
 use Rattle.nodes.proofs.Parts.{past}
-use Rattle.nodes.proofs.Shapes.{within}
 use Rattle.nodes.proofs.Spans.{child-on}
-use Rattle.nodes.proofs.Cursors.{before_last, past-last, stands, still-over, on-to}
+use Rattle.nodes.proofs.Iterated.{begun, at-first, ends-at, turn, ended}
 use Rattle.model.proofs.Items.{asked-none, asked-on, asked-all}
 use Rattle.model.proofs.mark_inners.Goals as goal
 
-pub loop-children-init : goal.loop-children-init
-loop-children-init c = let W = c.requires.0.view in let e = c.end-to.ensures W in let p = past W c.requires.1 in (record { part = refl; last = refl }, omega arith, omega arith, asked-none)
+pub loop-item-init : goal.loop-item-init
+loop-item-init c =
+    let W = c.requires.0.view in
+    let e = c.into_iter-item-iterator.ensures.into_iter_gives in
+    let b = c.of-item-items.ensures in
+    let f = at-first e b.0 in
+    let d = ends-at 0 e b.1 W in
+    let p = past W c.requires.1 in
+    (begun e b.0, omega arith, omega arith, rw f asked-none)
 
-pub mark_item-requires : goal.mark_item-requires
-mark_item-requires c =
-    let here : In c.args.nodes.now 0 c.loop-children.children.at = let i = c.loop-children.invariant in let i1 = i.1 in let W = c.requires.0.view in let e = c.end-to.ensures W in let l = before_last i.0 c.loop-children-test.true in within W c.requires.1 (omega arith) (omega arith) in
-    (c.requires.0, here, c.loop-children.invariant.1)
-
-pub step-requires : goal.step-requires
-step-requires c =
-    let here : In c.args.nodes.now 0 c.loop-children.children.at = let i = c.loop-children.invariant in let i1 = i.1 in let W = c.requires.0.view in let e = c.end-to.ensures W in let l = before_last i.0 c.loop-children-test.true in within W c.requires.1 (omega arith) (omega arith) in
-    stands c.loop-children.invariant.0 c.args.nodes.now (here)
-
-pub loop-children-smaller : goal.loop-children-smaller
-loop-children-smaller c =
-    let moved : (c.loop-children.children.at < c.step.result.rest.at) × (c.step.result.rest.at ≤ c.end-to.result) = let W = c.requires.0.view in let i = c.loop-children.invariant in let i1 = i.1 in child-on W c.requires.1 (c.end-to.ensures W) (omega arith) (before_last i.0 c.loop-children-test.true) (on-to i.0 c.step.ensures W) in
-    let m = moved in omega arith
-
-pub loop-children-preserved : goal.loop-children-preserved
-loop-children-preserved c =
-    let moved : (c.loop-children.children.at < c.step.result.rest.at) × (c.step.result.rest.at ≤ c.end-to.result) = let W = c.requires.0.view in let i = c.loop-children.invariant in let i1 = i.1 in child-on W c.requires.1 (c.end-to.ensures W) (omega arith) (before_last i.0 c.loop-children-test.true) (on-to i.0 c.step.ensures W) in
-    let i = c.loop-children.invariant in
-    let i1 = i.1 in
-    let m = moved in
-    (still-over i.0 c.step.ensures, omega arith, m.1, asked-on i.3 c.mark_item.ensures i.1 (omega arith) (λ A. on-to i.0 c.step.ensures A.view))
+pub loop-item-preserved : goal.loop-item-preserved
+loop-item-preserved c =
+    let W = c.requires.0.view in
+    let i = c.loop-item.invariant in
+    let t = turn i.0 c.in-Some.ensures.steps in
+    let d = ends-at 0 c.into_iter-item-iterator.ensures.into_iter_gives c.of-item-items.ensures.1 in
+    let l = rw (← t.is) at i.1 in
+    let m = child-on W c.requires.1 (d W) l t.before (t.moved W) in
+    (t.still, omega arith, m.1, asked-on (rw (← t.is) at i.3) c.mark_item.ensures l (omega arith) (λ A. t.moved A.view))
 
 pub returns : goal.returns
-returns c = let i = c.loop-children.invariant in let i2 = i.2 in let l = past-last i.0 c.loop-children-test.false in asked-all i.3 (λ A. let e = c.end-to.ensures A.view in omega arith)
+returns c =
+    let i = c.loop-item.invariant in
+    let i2 = i.2 in
+    let d = ends-at 0 c.into_iter-item-iterator.ensures.into_iter_gives c.of-item-items.ensures.1 in
+    let l = ended i.0 c.in-None.ensures.steps.3 in
+    asked-all i.3 (λ A. let e = d A.view in omega arith)

@@ -1,11 +1,8 @@
 -- `mark_inners` meets its contract: a walk from item to item.
-use Prim.Native.Nat.{◌-◌, ◌≤◌}
-use Rattle.nodes.proofs.Cursors.{Over}
+use Prim.Native.Nat.{◌≤◌}
+use Rattle.nodes.proofs.Iterated.{Over}
 use Rattle.model.proofs.Items.{Asked}
 use Rattle.model.proofs.mark_inners.Given as goal
 
-abbrev pub invariant-loop-children : goal.invariant-loop-children
-invariant-loop-children l = Over 0 l.to l.children × (1 ≤ l.children.at) × (l.children.at ≤ l.to) × Asked l.nodes l.asset l.initial.known l.known l.children.at
-
-abbrev pub decreases-loop-children : goal.decreases-loop-children
-decreases-loop-children l = l.to - l.children.at
+abbrev pub invariant-loop-item : goal.invariant-loop-item
+invariant-loop-item l = let s = l.initial.item-iterator in Over l.nodes 0 s.to l.item-iterator × (1 ≤ l.item-iterator.at) × (l.item-iterator.at ≤ s.to) × Asked l.nodes l.asset l.initial.known l.known l.item-iterator.at

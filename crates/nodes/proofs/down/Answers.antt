@@ -24,4 +24,4 @@ loop-r-preserved c =
     let i = c.loop-r.invariant in (i.0, falls-on i.1 c.loop-r-test.true (λ W. told W ∙ c.if-not-is_past.false))
 
 pub returns : goal.returns
-returns c = let F = c.loop-r.invariant.1 in let h = F.high in (F.low, λ W. sym (F.rest W ∙ first-over _ _ _ (omega arith)))
+returns c = let i = c.loop-r.invariant in let F = i.1 in let d = i.0.order in let z : c.loop-r.r ≡ c.end-to.result = omega arith in (d, λ W. sym (F.rest W ∙ first-over _ _ _ z ∙ z))

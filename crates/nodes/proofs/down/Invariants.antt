@@ -1,5 +1,4 @@
 -- `down` meets its contract: the walk stops at the first node that is not taken off, or at the end.
-use Prim.Native.Nat.{◌-◌}
 use Rattle.nodes.specs.Past.{taken_off}
 use Rattle.nodes.proofs.Spans.{Span}
 use Rattle.nodes.proofs.Fall.{Falling}
@@ -7,6 +6,3 @@ use Rattle.nodes.proofs.down.Given as goal
 
 abbrev pub invariant-loop-r : goal.invariant-loop-r
 invariant-loop-r l = Span l.nodes l.base l.x l.to × Falling (taken_off l.past) l.nodes l.base l.x l.to l.r
-
-abbrev pub decreases-loop-r : goal.decreases-loop-r
-decreases-loop-r l = l.to - l.r

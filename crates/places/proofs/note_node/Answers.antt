@@ -1,58 +1,28 @@
 -- `note_node` meets its contract: a node of another kind is left out, one of this kind is noted for its Name.
 use native.Mathlib.Omega.{arith}
-use mathlib.Core.Path.{◌≡◌, ◌∙◌, sym}
-use Prim.Native.Nat.{◌+◌, ◌≤◌}
-use Rattle.nodes.specs.Shown.{View, Worded, tree_of}
-use Rattle.nodes.proofs.Turns.{named-at, numbered}
+use mathlib.Core.Path.{◌∙◌, sym}
+use Rattle.nodes.proofs.Turns.{named-at, named-number}
 use Rattle.places.proofs.Noting.{note-other, note-name}
 use Rattle.places.proofs.note_node.Goals as goal
 
-pub overflow_sub-i : goal.overflow_sub-i
-overflow_sub-i c =
-    let is_one : (W : View c.args.nodes.now 0) → (tree_of W).kind c.args.p ≡ c.args.kind = λ W. sym (c.kind.ensures W) ∙ c.if-kind.true in
-    let worded : Worded c.args.nodes.now 0 (c.args.p + 1) = let W = c.requires.1 in named-at W c.requires.2 c.requires.0 (is_one W) in
-    let small : (1 ≤ c.name-i.result) × (c.name-i.result ≤ 1024) = numbered (worded) c.name-i.ensures in
-    let g = small in omega arith
+pub name-requires : goal.name-requires
+name-requires c = let P = c.requires in (named-at P.1 P.2 P.0 (sym (c.kind.ensures P.1) ∙ c.if-kind.true)).here
 
-pub offset_bounds-places-i : goal.offset_bounds-places-i
-offset_bounds-places-i c =
-    let is_one : (W : View c.args.nodes.now 0) → (tree_of W).kind c.args.p ≡ c.args.kind = λ W. sym (c.kind.ensures W) ∙ c.if-kind.true in
-    let worded : Worded c.args.nodes.now 0 (c.args.p + 1) = let W = c.requires.1 in named-at W c.requires.2 c.requires.0 (is_one W) in
-    let small : (1 ≤ c.name-i.result) × (c.name-i.result ≤ 1024) = numbered (worded) c.name-i.ensures in
-    let g = small in omega arith
+pub overflow_sub-place : goal.overflow_sub-place
+overflow_sub-place c = let P = c.requires in let g = named-number P.1 P.2 P.0 c.kind.ensures c.if-kind.true c.name.ensures in omega arith
 
-pub bounds-places-i : goal.bounds-places-i
-bounds-places-i c =
-    let is_one : (W : View c.args.nodes.now 0) → (tree_of W).kind c.args.p ≡ c.args.kind = λ W. sym (c.kind.ensures W) ∙ c.if-kind.true in
-    let worded : Worded c.args.nodes.now 0 (c.args.p + 1) = let W = c.requires.1 in named-at W c.requires.2 c.requires.0 (is_one W) in
-    let small : (1 ≤ c.name-i.result) × (c.name-i.result ≤ 1024) = numbered (worded) c.name-i.ensures in
-    let g = small in omega arith
+pub offset_bounds-places-name : goal.offset_bounds-places-name
+offset_bounds-places-name c = let P = c.requires in let g = named-number P.1 P.2 P.0 c.kind.ensures c.if-kind.true c.name.ensures in omega arith
 
-pub offset_bounds-places-i-then-kind : goal.offset_bounds-places-i-then-kind
-offset_bounds-places-i-then-kind c =
-    let is_one : (W : View c.args.nodes.now 0) → (tree_of W).kind c.args.p ≡ c.args.kind = λ W. sym (c.kind.ensures W) ∙ c.if-kind.true in
-    let worded : Worded c.args.nodes.now 0 (c.args.p + 1) = let W = c.requires.1 in named-at W c.requires.2 c.requires.0 (is_one W) in
-    let small : (1 ≤ c.name-i.result) × (c.name-i.result ≤ 1024) = numbered (worded) c.name-i.ensures in
-    let g = small in omega arith
-
-pub bounds-places-i-then-kind : goal.bounds-places-i-then-kind
-bounds-places-i-then-kind c =
-    let is_one : (W : View c.args.nodes.now 0) → (tree_of W).kind c.args.p ≡ c.args.kind = λ W. sym (c.kind.ensures W) ∙ c.if-kind.true in
-    let worded : Worded c.args.nodes.now 0 (c.args.p + 1) = let W = c.requires.1 in named-at W c.requires.2 c.requires.0 (is_one W) in
-    let small : (1 ≤ c.name-i.result) × (c.name-i.result ≤ 1024) = numbered (worded) c.name-i.ensures in
-    let g = small in omega arith
+pub bounds-places-name : goal.bounds-places-name
+bounds-places-name c = let P = c.requires in let g = named-number P.1 P.2 P.0 c.kind.ensures c.if-kind.true c.name.ensures in omega arith
 
 pub returns-then-kind : goal.returns-then-kind
 returns-then-kind c =
-    let is_one : (W : View c.args.nodes.now 0) → (tree_of W).kind c.args.p ≡ c.args.kind = λ W. sym (c.kind.ensures W) ∙ c.if-kind.true in
-    let worded : Worded c.args.nodes.now 0 (c.args.p + 1) = let W = c.requires.1 in named-at W c.requires.2 c.requires.0 (is_one W) in
-    λ W F N. note-name W c.args.note c.args.p N (worded) (is_one W) (c.name-i.ensures W) c.taken.ensures
+    let P = c.requires in
+    λ W F N.
+    let k = sym (c.kind.ensures W) ∙ c.if-kind.true in
+    note-name W c.args.note c.args.p N (named-at W P.2 P.0 k) k (c.name.ensures W) c.taken.ensures
 
 pub returns-else-kind : goal.returns-else-kind
 returns-else-kind c = λ W F N. note-other W c.args.note c.args.p N (λ e. c.if-kind.false (c.kind.ensures W ∙ e))
-
-pub name-i-requires : goal.name-i-requires
-name-i-requires c =
-    let is_one : (W : View c.args.nodes.now 0) → (tree_of W).kind c.args.p ≡ c.args.kind = λ W. sym (c.kind.ensures W) ∙ c.if-kind.true in
-    let worded : Worded c.args.nodes.now 0 (c.args.p + 1) = let W = c.requires.1 in named-at W c.requires.2 c.requires.0 (is_one W) in
-    (worded).here
