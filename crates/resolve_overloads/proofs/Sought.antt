@@ -21,7 +21,7 @@ use Rattle.records.proofs.Sweep.{has_one, has-not, keep_one, keep-none}
 use Rattle.nodes.specs.Shown.{View, In, tree_of}
 use Rattle.nodes.specs.Marks.{Marks, marking}
 use Rattle.nodes.proofs.Names.{same-is, marks-as, marks-none, either-false}
-use Rattle.nodes.proofs.Parts.{past, formed}
+use Rattle.nodes.proofs.Parts.{formed}
 use Rattle.nodes.proofs.Marking.{some-on}
 use Rattle.signature.specs.Alike.{signed_as}
 use Rattle.resolve_overloads.specs.Entries.{earlier, at23, noted_entry}

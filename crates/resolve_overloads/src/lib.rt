@@ -13,7 +13,7 @@ ghost use Rattle.resolve_overloads.specs.Entries.{Entries, EntryAt, Seen, at23, 
 ghost use Rattle.resolve_overloads.specs.Keys.{mix, token, type_key, key_of, slot, Chained, Likely, Sought, chained, Chaining};
 
 use image::Image;
-use nodes::{Cursor, ENTRY, Marks, PARAM};
+use nodes::{Children, Cursor, ENTRY, Marks, PARAM};
 
 // The entries kept: the last one of each slot, for each node the entry before it in its slot (0 is none), and its key.
 type Heads = [u16; 4096];
@@ -47,12 +47,10 @@ fn same_type(nodes: &[u8], i: usize, j: usize) -> bool
         return false;
     }
     let n = e - i;
-    let mut d = 0;
-    while d < n {
+    for d in 0..n {
         if !same_node(nodes, i + d, j + d) {
             return false;
         }
-        d += 1;
     }
     true
 }
@@ -105,13 +103,6 @@ fn same_signature(nodes: &[u8], g: usize, e: usize) -> bool
     }
 }
 
-// A u16 as an index.
-fn wide(x: u16) -> usize
-    ensures { (result ≡ x) × (result < 65536) }
-{
-    x as usize
-}
-
 // What node p adds to a key.
 fn token(nodes: &[u8], p: usize) -> usize
     requires { In nodes.now 0 p }
@@ -137,10 +128,8 @@ fn type_key(nodes: &[u8], key: usize, y: usize) -> usize
 {
     let end = nodes::end(nodes, 0, y);
     let mut k = key;
-    let mut p = y;
-    while p < end {
+    for p in y..end {
         k = mix(k, token(nodes, p));
-        p += 1;
     }
     k
 }
@@ -150,20 +139,12 @@ fn entry_key(nodes: &[u8], e: usize) -> usize
     requires { EntryAt nodes.now e }
     ensures { (W : View nodes.now 0) → result ≡ key_of W.image e }
 {
-    let to = nodes::end(nodes, 0, e);
     let mut key = nodes::name(nodes, 0, e + 1);
-    let mut children = Cursor {
-        base: 0,
-        at: e + 2,
-        end: to,
-    };
-    while children.at < children.end {
-        let p = children.at;
-        if nodes::kind(nodes, 0, p) != PARAM {
+    for param in Children::from(nodes, 0, e, e + 2) {
+        if nodes::kind(nodes, 0, param) != PARAM {
             return key;
         }
-        key = type_key(nodes, key, p + 2);
-        children = children.step(nodes).rest;
+        key = type_key(nodes, key, param + 2);
     }
     key
 }
@@ -202,12 +183,12 @@ fn first_signed(
     ensures { (result ≤ e) × ((S : Sought nodes.now e key heads.now links.now keys.now) → result ≡ first_signed (tree_of S.it.view) (signature (tree_of S.it.view) e)) }
 {
     let at = slot(key);
-    let mut g = wide(heads[at]);
+    let mut g = usize::from(heads[at]);
     while 0 < g {
         if is_signed(nodes, g, e, key, keys) {
             return g;
         }
-        g = wide(links[g]);
+        g = usize::from(links[g]);
     }
     e
 }
@@ -268,16 +249,9 @@ fn entries(
     requires { Chained nodes.now 1 heads.old links.old keys.old × In nodes.now 0 0 × (count < 2 ^ 40) }
     ensures { Adds (chained group23 nodes.now 1 heads.old links.old keys.old) 2048 out.old out.new count result }
 {
-    let to = nodes::end(nodes, 0, 0);
     let mut total = count;
-    let mut children = Cursor {
-        base: 0,
-        at: 1,
-        end: to,
-    };
-    while children.at < children.end {
-        total = entry(nodes, children.at, heads, links, keys, out, total);
-        children = children.step(nodes).rest;
+    for item in Children::of(nodes, 0, 0) {
+        total = entry(nodes, item, heads, links, keys, out, total);
     }
     total
 }
@@ -313,17 +287,10 @@ fn repeats(nodes: &[u8], seen: &mut Marks) -> bool
     requires { Seen nodes.now 1 seen.old × In nodes.now 0 0 }
     ensures { (S : Seen nodes.now 1 seen.old) → result ≡ false → group23 (tree_of S.view) ≡ [] }
 {
-    let to = nodes::end(nodes, 0, 0);
-    let mut children = Cursor {
-        base: 0,
-        at: 1,
-        end: to,
-    };
-    while children.at < children.end {
-        if meets(nodes, children.at, seen) {
+    for item in Children::of(nodes, 0, 0) {
+        if meets(nodes, item, seen) {
             return true;
         }
-        children = children.step(nodes).rest;
     }
     false
 }

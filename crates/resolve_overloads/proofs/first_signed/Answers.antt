@@ -11,7 +11,7 @@ use Rattle.resolve_overloads.proofs.first_signed.Goals as goal
 pub loop-g-init : goal.loop-g-init
 loop-g-init c =
     let Given : Type 0 = Sought c.args.nodes.now c.args.e c.args.key c.args.heads.now c.args.links.now c.args.keys.now in
-    let started : (S : Given) → (c.wide-g.result < c.args.e) × Seeking S.it.view.image c.args.e (slot c.args.key) c.wide-g.result = λ S. seek-start S.chains (slot-low c.args.key) S.it.low (c.wide-g.ensures.0 ∙ ap (λ (x : ℕ). get_or c.args.heads.now x 0) c.slot-at.ensures.0) in
+    let started : (S : Given) → (c.from-g.result < c.args.e) × Seeking S.it.view.image c.args.e (slot c.args.key) c.from-g.result = λ S. seek-start S.chains (slot-low c.args.key) S.it.low (c.from-g.ensures ∙ ap (λ (x : ℕ). get_or c.args.heads.now x 0) c.slot-at.ensures.0) in
     ((started c.requires).0, λ S. (started S).1)
 
 pub is_signed-requires : goal.is_signed-requires
@@ -30,14 +30,14 @@ pub loop-g-smaller : goal.loop-g-smaller
 loop-g-smaller c =
     let Given : Type 0 = Sought c.args.nodes.now c.args.e c.args.key c.args.heads.now c.args.links.now c.args.keys.now in
     let liked : (S : Given) → Likely c.args.nodes.now c.loop-g.g c.args.e c.args.key c.args.keys.now = λ S. likely S (c.loop-g.invariant.1 S) c.loop-g-test.true c.loop-g.invariant.0 in
-    let moved : (S : Given) → (c.wide-g-in-loop-g.result < c.loop-g.g) × Seeking S.it.view.image c.args.e (slot c.args.key) c.wide-g-in-loop-g.result = λ S. seek-on S.chains (c.loop-g.invariant.1 S) c.loop-g-test.true c.loop-g.invariant.0 c.wide-g-in-loop-g.ensures.0 (sym (c.is_signed.ensures (liked S)) ∙ c.if-is_signed.false) in
+    let moved : (S : Given) → (c.from-g-in-loop-g.result < c.loop-g.g) × Seeking S.it.view.image c.args.e (slot c.args.key) c.from-g-in-loop-g.result = λ S. seek-on S.chains (c.loop-g.invariant.1 S) c.loop-g-test.true c.loop-g.invariant.0 c.from-g-in-loop-g.ensures (sym (c.is_signed.ensures (liked S)) ∙ c.if-is_signed.false) in
     (moved c.requires).0
 
 pub loop-g-preserved : goal.loop-g-preserved
 loop-g-preserved c =
     let Given : Type 0 = Sought c.args.nodes.now c.args.e c.args.key c.args.heads.now c.args.links.now c.args.keys.now in
     let liked : (S : Given) → Likely c.args.nodes.now c.loop-g.g c.args.e c.args.key c.args.keys.now = λ S. likely S (c.loop-g.invariant.1 S) c.loop-g-test.true c.loop-g.invariant.0 in
-    let moved : (S : Given) → (c.wide-g-in-loop-g.result < c.loop-g.g) × Seeking S.it.view.image c.args.e (slot c.args.key) c.wide-g-in-loop-g.result = λ S. seek-on S.chains (c.loop-g.invariant.1 S) c.loop-g-test.true c.loop-g.invariant.0 c.wide-g-in-loop-g.ensures.0 (sym (c.is_signed.ensures (liked S)) ∙ c.if-is_signed.false) in
+    let moved : (S : Given) → (c.from-g-in-loop-g.result < c.loop-g.g) × Seeking S.it.view.image c.args.e (slot c.args.key) c.from-g-in-loop-g.result = λ S. seek-on S.chains (c.loop-g.invariant.1 S) c.loop-g-test.true c.loop-g.invariant.0 c.from-g-in-loop-g.ensures (sym (c.is_signed.ensures (liked S)) ∙ c.if-is_signed.false) in
     let l = c.loop-g.invariant.0 in let h = (moved c.requires).0 in (omega arith, λ S. (moved S).1)
 
 pub returns : goal.returns
