@@ -15,7 +15,7 @@ ghost use Rattle.resolve.specs.Tables.{LentFirst, CallTables, Called, ResolveTab
 use image::Image;
 use items::Items;
 use names::Words;
-use nodes::{Cursor, ENTRY, GENESIS, Marks, NAME};
+use nodes::{Children, ENTRY, GENESIS, Marks, NAME};
 use resolve_clauses::Rule;
 
 // 20, 21, 22, 23, 24 to 29, 30 and 31; `mint_asset` has the number `mint`.
@@ -69,16 +69,9 @@ fn group33(
     if !has {
         return count;
     }
-    let end = nodes::end(nodes, 0, 0);
     let mut total = count;
-    let mut children = Cursor {
-        base: 0,
-        at: 1,
-        end,
-    };
-    while children.at < children.end {
-        total = genesis(nodes, children.at, state, builtin, method, out, total);
-        children = children.step(nodes).rest;
+    for item in Children::of(nodes, 0, 0) {
+        total = genesis(nodes, item, state, builtin, method, out, total);
     }
     total
 }
@@ -134,15 +127,12 @@ fn entry(
         return count;
     }
     let first = items::first_statement(nodes, 0, item);
-    let signed = resolve_clauses::signers(
-        Rule(NAME, false, 35),
-        nodes,
-        item,
-        first,
-        state,
-        out,
-        count,
-    );
+    let rule = Rule {
+        kind: NAME,
+        on: false,
+        code: 35,
+    };
+    let signed = resolve_clauses::signers(rule, nodes, item, first, state, out, count);
     let listed = resolve_clauses::clauses(nodes, item, first, state, declared, known, out, signed);
     entry_calls(
         nodes, item, first, address, fields, params, builtin, method, out, listed,
@@ -166,29 +156,12 @@ fn group35(
     requires { ResolveTables nodes.now address state.now declared.now known.now fields.now params.old builtin.now method.now × In nodes.now 0 0 × (count < 2 ^ 40) }
     ensures { Adds (lent group35 nodes.now address state.now declared.now known.now fields.now params.old builtin.now method.now) (2 ^ 34) out.old out.new count result }
 {
-    let end = nodes::end(nodes, 0, 0);
     let mut total = count;
-    let mut children = Cursor {
-        base: 0,
-        at: 1,
-        end,
-    };
-    while children.at < children.end {
+    for item in Children::of(nodes, 0, 0) {
         total = entry(
-            nodes,
-            children.at,
-            address,
-            state,
-            declared,
-            known,
-            fields,
-            params,
-            builtin,
-            method,
-            out,
+            nodes, item, address, state, declared, known, fields, params, builtin, method, out,
             total,
         );
-        children = children.step(nodes).rest;
     }
     total
 }
