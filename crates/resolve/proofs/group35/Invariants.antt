@@ -13,5 +13,5 @@ use Rattle.resolve.proofs.group35.Given as goal
 abbrev pub invariant-loop-item : goal.invariant-loop-item
 invariant-loop-item l =
     let s = l.initial.item-iterator in Over l.nodes 0 s.to l.item-iterator
-    × Walk (λ (T : ResolveTables l.nodes l.address l.state l.declared l.known l.fields l.initial.params l.builtin l.method). T.of_entry.view) entry (λ T. entry_rules (tree_of T.of_entry.view)) 1 s.to (2 ^ 23) l.initial.out l.count l.out l.total l.item-iterator.at
-    × ((T : ResolveTables l.nodes l.address l.state l.declared l.known l.fields l.initial.params l.builtin l.method) → Marks T.of_entry.view.image (λ w. false) l.params)
+    × Walk (λ (T : ResolveTables l.nodes l.tables l.initial.params). T.of_entry.view) entry (λ T. entry_rules (tree_of T.of_entry.view)) 1 s.to (2 ^ 23) l.initial.out l.count l.out l.total l.item-iterator.at
+    × ((T : ResolveTables l.nodes l.tables l.initial.params) → Marks T.of_entry.view.image (λ w. false) l.params)
