@@ -16,11 +16,12 @@ use image::Image;
 use nodes::{Children, Cursor, ENTRY, Marks, PARAM};
 
 // The entries kept: the last one of each slot, for each node the entry before it in its slot (0 is none), and its key.
-type Heads = [u16; 4096];
-
-type Links = [u16; Image::NODES];
-
-type Keys = [usize; Image::NODES];
+#[derive(Drop)]
+struct Kept {
+    heads: [u16; 4096],
+    links: [u16; Image::NODES],
+    keys: [usize; Image::NODES],
+}
 
 // Whether the nodes p and q are of one kind, carry one name and are as long.
 fn same_node(nodes: &[u8], p: usize, q: usize) -> bool
@@ -159,70 +160,57 @@ fn slot(key: usize) -> usize
     2048 + key % 2048
 }
 
-// Whether the entries g and e have one signature: entries of other keys are not compared.
-fn is_signed(nodes: &[u8], g: usize, e: usize, key: usize, keys: &Keys) -> bool
-    requires { Likely nodes.now g e key keys.now }
-    ensures { (L : Likely nodes.now g e key keys.now) → result ≡ signed_as (tree_of L.pair.view) e g }
-{
-    if keys[g] != key {
-        return false;
-    }
-    same_signature(nodes, g, e)
-}
-
-// The first entry that has the signature of the entry e.
-fn first_signed(
-    nodes: &[u8],
-    e: usize,
-    key: usize,
-    heads: &Heads,
-    links: &Links,
-    keys: &Keys,
-) -> usize
-    requires { Sought nodes.now e key heads.now links.now keys.now }
-    ensures { (result ≤ e) × ((S : Sought nodes.now e key heads.now links.now keys.now) → result ≡ first_signed (tree_of S.it.view) (signature (tree_of S.it.view) e)) }
-{
-    let at = slot(key);
-    let mut g = usize::from(heads[at]);
-    while 0 < g {
-        if is_signed(nodes, g, e, key, keys) {
-            return g;
+impl Kept {
+    // Whether the kept entry g and the entry e have one signature: entries of other keys are not compared.
+    fn is_signed(&self, nodes: &[u8], g: usize, e: usize, key: usize) -> bool
+        requires { Likely nodes.now g e key self.now }
+        ensures { (L : Likely nodes.now g e key self.now) → result ≡ signed_as (tree_of L.pair.view) e g }
+    {
+        if self.keys[g] != key {
+            return false;
         }
-        g = usize::from(links[g]);
+        same_signature(nodes, g, e)
     }
-    e
-}
 
-// An entry is kept: it is the last one of its slot.
-fn enter(entry: usize, key: usize, heads: &mut Heads, links: &mut Links, keys: &mut Keys)
-    requires { entry < 2048 }
-    ensures { (heads.new ≡ set heads.old (slot key) entry) × (links.new ≡ set links.old entry (get_or heads.old (slot key) 0)) × (keys.new ≡ set keys.old entry key) }
-{
-    let at = slot(key);
-    keys[entry] = key;
-    links[entry] = heads[at];
-    heads[at] = entry as u16;
+    // The first entry that has the signature of the entry e. The walk goes from link to link, not by a counter.
+    fn first_signed(&self, nodes: &[u8], e: usize, key: usize) -> usize
+        requires { Sought nodes.now e key self.now }
+        ensures { (result ≤ e) × ((S : Sought nodes.now e key self.now) → result ≡ first_signed (tree_of S.it.view) (signature (tree_of S.it.view) e)) }
+    {
+        let at = slot(key);
+        let mut g = usize::from(self.heads[at]);
+        while 0 < g {
+            if self.is_signed(nodes, g, e, key) {
+                return g;
+            }
+            g = usize::from(self.links[g]);
+        }
+        e
+    }
+
+    // An entry is kept: it is the last one of its slot.
+    fn enter(&mut self, entry: usize, key: usize)
+        requires { entry < 2048 }
+        ensures { (self.new.heads ≡ set self.old.heads (slot key) entry) × (self.new.links ≡ set self.old.links entry (get_or self.old.heads (slot key) 0)) × (self.new.keys ≡ set self.old.keys entry key) }
+    {
+        let at = slot(key);
+        self.keys[entry] = key;
+        self.links[entry] = self.heads[at];
+        self.heads[at] = entry as u16;
+    }
 }
 
 // 23 at an item, if it is an Entry. It is kept if no earlier one has its signature.
-fn entry(
-    nodes: &[u8],
-    item: usize,
-    heads: &mut Heads,
-    links: &mut Links,
-    keys: &mut Keys,
-    out: &mut [u16],
-    count: usize,
-) -> usize
-    requires { Chained nodes.now item heads.old links.old keys.old × In nodes.now 0 item × (0 < item) × (count < 2 ^ 60) }
-    ensures adds { Adds (chained (at23 item) nodes.now item heads.old links.old keys.old) 1 out.old out.new count result }
-    ensures chaining { Chaining nodes.now item heads.old heads.new links.old links.new keys.old keys.new }
+fn entry(nodes: &[u8], item: usize, kept: &mut Kept, out: &mut [u16], count: usize) -> usize
+    requires { Chained nodes.now item kept.old × In nodes.now 0 item × (0 < item) × (count < 2 ^ 60) }
+    ensures adds { Adds (chained (at23 item) nodes.now item kept.old) 1 out.old out.new count result }
+    ensures chaining { Chaining nodes.now item kept.old kept.new }
 {
     if nodes::kind(nodes, 0, item) != ENTRY {
         return count;
     }
     let key = entry_key(nodes, item);
-    let first = first_signed(nodes, item, key, heads, links, keys);
+    let first = kept.first_signed(nodes, item, key);
     if first < item {
         return records::emit(
             out,
@@ -233,25 +221,18 @@ fn entry(
             item as u16,
         );
     }
-    enter(item, key, heads, links, keys);
+    kept.enter(item, key);
     count
 }
 
 // 23: the entries in order.
-fn entries(
-    nodes: &[u8],
-    heads: &mut Heads,
-    links: &mut Links,
-    keys: &mut Keys,
-    out: &mut [u16],
-    count: usize,
-) -> usize
-    requires { Chained nodes.now 1 heads.old links.old keys.old × In nodes.now 0 0 × (count < 2 ^ 40) }
-    ensures { Adds (chained group23 nodes.now 1 heads.old links.old keys.old) 2048 out.old out.new count result }
+fn entries(nodes: &[u8], kept: &mut Kept, out: &mut [u16], count: usize) -> usize
+    requires { Chained nodes.now 1 kept.old × In nodes.now 0 0 × (count < 2 ^ 40) }
+    ensures { Adds (chained group23 nodes.now 1 kept.old) 2048 out.old out.new count result }
 {
     let mut total = count;
     for item in Children::of(nodes, 0, 0) {
-        total = entry(nodes, item, heads, links, keys, out, total);
+        total = entry(nodes, item, kept, out, total);
     }
     total
 }
@@ -261,10 +242,12 @@ fn compared(nodes: &[u8], out: &mut [u16], count: usize) -> usize
     requires { View nodes.now 0 × In nodes.now 0 0 × (count < 2 ^ 40) }
     ensures { Adds (λ (W : View nodes.now 0). on group23 (tree_of W)) 2048 out.old out.new count result }
 {
-    let mut heads = [0u16; 4096];
-    let mut links = [0u16; Image::NODES];
-    let mut keys = [0usize; Image::NODES];
-    entries(nodes, &mut heads, &mut links, &mut keys, out, count)
+    let mut kept = Kept {
+        heads: [0u16; 4096],
+        links: [0u16; Image::NODES],
+        keys: [0usize; Image::NODES],
+    };
+    entries(nodes, &mut kept, out, count)
 }
 
 // Whether the item is an Entry whose name an earlier one has; else its name is marked.

@@ -11,6 +11,7 @@ use Rattle.records.proofs.Sweep.{keep-none, run-below, sweep-on, sweep-starts, s
 use Rattle.nodes.specs.Shown.{View, In, tree_of}
 use Rattle.nodes.proofs.Spans.{child-on, span_below}
 use Rattle.nodes.proofs.Iterated.{begun, at-first, ends-at, turn, ended}
+use Rattle.resolve_overloads.specs.declared.Kept.{Kept}
 use Rattle.resolve_overloads.specs.Keys.{Chained, Chains}
 use Rattle.signature.proofs.Sought.{Next, between}
 use Rattle.resolve_overloads.proofs.Sought.{chains-on}
@@ -20,7 +21,7 @@ use Rattle.resolve_overloads.proofs.entries.Goals as goal
 next-at : {nodes : List ℕ} {p q : ℕ} (W : View nodes 0) → In nodes 0 p → 1 ≤ p → q ≡ (tree_of W).end p → Next W p q
 next-at W i l e = record { here = i; low = l; is = e }
 
-abbrev chained-at : {nodes heads₀ links₀ keys₀ heads links keys : List ℕ} {p q : ℕ} → p ≡ q → (C : Chained nodes 1 heads₀ links₀ keys₀) → Chains C.view.image q heads links keys → Chained nodes p heads links keys
+abbrev chained-at : {nodes : List ℕ} {kept₀ kept : Kept} {p q : ℕ} → p ≡ q → (C : Chained nodes 1 kept₀) → Chains C.view.image q kept.heads kept.links kept.keys → Chained nodes p kept
 chained-at e C N = record { view = C.view; chains = rw e N }
 
 pub entry-total-requires : goal.entry-total-requires
@@ -48,7 +49,7 @@ loop-item-preserved c =
     let n = λ (W : View c.args.nodes.now 0). next-at W t.here w.low (t.moved W) in
     let m = let W = c.requires.0.view in child-on W c.requires.1 (d W) w.low t.before (t.moved W) in
     let r = c.entry-total.ensures in
-    let now = λ (C : Chained c.args.nodes.now 1 c.args.heads.now c.args.links.now c.args.keys.now). chained-at t.is C (i.3 C) in (
+    let now = λ (C : Chained c.args.nodes.now 1 c.args.kept.now). chained-at {kept = c.loop-item.kept} t.is C (i.3 C) in (
       t.still,
       i.1,
       sweep-on w (added-by now (λ C. refl) r.adds) m.0 m.1 (λ C j a z. keep-none _ j (between C.view (n C.view) j a z)),
