@@ -3,17 +3,16 @@
 // a number made of its name and its types, and only the first entry of each signature is kept to be compared with.
 #![tactic(auto)]
 
-ghost use Rattle.std.specs.Prelude.{◌≡◌, false, [], ℕ, ◌+◌, ◌*◌, ◌<◌, ◌≤◌, ◌^◌, ltb, eqb, get_or, set};
-ghost use Rattle.image.specs.Pick.{both};
+ghost use Rattle.std.specs.Prelude.{◌≡◌, false, [], ℕ, ◌+◌, ◌*◌, ◌<◌, ◌≤◌, ◌^◌, get_or, set, MatchOption};
 ghost use Rattle.rules.specs.Resolve.{signature, first_signed, group23};
 ghost use Rattle.records.specs.Records.{Adds, on};
 ghost use Rattle.nodes.specs.Shown.{View, In, tree_of};
 ghost use Rattle.signature.specs.Alike.{same_node, same_type, signed_as};
-ghost use Rattle.resolve_overloads.specs.Entries.{Entries, EntryAt, Seen, at23, Passes};
+ghost use Rattle.resolve_overloads.specs.Entries.{Entries, EntryAt, Seen, at23, Passes, NextParam, AtParam, AtNoParam};
 ghost use Rattle.resolve_overloads.specs.Keys.{mix, token, type_key, key_of, slot, Chained, Likely, Sought, chained, Chaining};
 
 use image::Image;
-use nodes::{Children, Cursor, ENTRY, Marks, PARAM};
+use nodes::{Children, ENTRY, Marks, PARAM};
 
 // The entries kept: the last one of each slot, for each node the entry before it in its slot (0 is none), and its key.
 #[derive(Drop)]
@@ -56,15 +55,16 @@ fn same_type(nodes: &[u8], i: usize, j: usize) -> bool
     true
 }
 
-// Whether a parameter stands at p, before e.
-fn is_param(nodes: &[u8], p: usize, e: usize) -> bool
-    requires { p < e → In nodes.now 0 p }
-    ensures { (W : View nodes.now 0) → result ≡ both (ltb p e) (eqb ((tree_of W).kind p) 10) }
+// The next child of an entry, if it is a parameter.
+fn next_param(children: &mut Children) -> Option<usize>
+    requires { children.old.base ≡ 0 }
+    ensures { NextParam children.old children.new × MatchOption result (AtNoParam children.old) (AtParam children.old children.new) }
 {
-    if e <= p {
-        return false;
+    let p = children.next()?;
+    if nodes::kind(children.nodes, 0, p) != PARAM {
+        return None;
     }
-    nodes::kind(nodes, 0, p) == PARAM
+    Some(p)
 }
 
 // Whether the entries g and e have one signature: one name, and the same types in order.
@@ -75,33 +75,17 @@ fn same_signature(nodes: &[u8], g: usize, e: usize) -> bool
     if nodes::name(nodes, 0, g + 1) != nodes::name(nodes, 0, e + 1) {
         return false;
     }
-    let to_g = nodes::end(nodes, 0, g);
-    let to_e = nodes::end(nodes, 0, e);
-    let mut ours = Cursor {
-        base: 0,
-        at: g + 2,
-        end: to_g,
-    };
-    let mut theirs = Cursor {
-        base: 0,
-        at: e + 2,
-        end: to_e,
-    };
-    loop {
-        let p = ours.at;
-        let q = theirs.at;
-        if !is_param(nodes, p, to_g) {
-            return !is_param(nodes, q, to_e);
-        }
-        if !is_param(nodes, q, to_e) {
+    let mut ours = Children::from(nodes, 0, g, g + 2);
+    let mut theirs = Children::from(nodes, 0, e, e + 2);
+    while let Some(p) = next_param(&mut ours) {
+        let Some(q) = next_param(&mut theirs) else {
             return false;
-        }
+        };
         if !same_type(nodes, p + 2, q + 2) {
             return false;
         }
-        ours = ours.step(nodes).rest;
-        theirs = theirs.step(nodes).rest;
     }
+    next_param(&mut theirs).is_none()
 }
 
 // What node p adds to a key.
