@@ -20,6 +20,7 @@ use Rattle.resolve_calls.specs.Called as calls
 use Rattle.resolve_calls.specs.Called.{is_builtin, is_method}
 use Rattle.resolve_clauses.specs.Said as clauses
 use Rattle.resolve_deployer.specs.Deployed.{DeployerIs}
+use Rattle.resolve.specs.declared.Tables.{Tables}
 use Rattle.resolve.specs.Tables.{LentFirst, CallTables, Called, ResolveTables, first_groups}
 
 module _ {nodes : List ℕ} {mint : ℕ} {state : List Bool} (T : LentFirst nodes mint state) where
@@ -29,21 +30,21 @@ module _ {nodes : List ℕ} {mint : ℕ} {state : List Bool} (T : LentFirst node
   abbrev pub by_name : State nodes 0 state
   by_name = record { view = T.view; state_marks = T.state_marks }
 
-abbrev pub by-assigns : {nodes : List ℕ} {state builtin method : List Bool} → CallTables nodes state builtin method → State nodes 0 state
+abbrev pub by-assigns : {nodes : List ℕ} {tables : Tables} → CallTables nodes tables → State nodes 0 tables.state.now
 by-assigns T = record { view = T.view; state_marks = T.state_marks }
 
-abbrev pub by-typing : {nodes : List ℕ} {address : ℕ} {fields params builtin method : List Bool} → Called nodes address fields params builtin method → calls.AddressTyping nodes address
+abbrev pub by-typing : {nodes : List ℕ} {tables : Tables} {params : List Bool} → Called nodes tables params → calls.AddressTyping nodes tables.address
 by-typing T = record { view = T.view; address_number = T.address_number }
 
-module _ {nodes : List ℕ} {address : ℕ} {state declared known fields params builtin method : List Bool} (T : ResolveTables nodes address state declared known fields params builtin method) where
-  abbrev pub by-signers : clauses.OneTable nodes 0 state
+module _ {nodes : List ℕ} {tables : Tables} {params : List Bool} (T : ResolveTables nodes tables params) where
+  abbrev pub by-signers : clauses.OneTable nodes 0 tables.state.now
   by-signers = record { view = T.of_entry.view; says = is_state (tree_of T.of_entry.view); tells = T.state_marks }
 
-  abbrev pub by-clauses : clauses.AssetMarks nodes state declared known
+  abbrev pub by-clauses : clauses.AssetMarks nodes tables.state.now tables.declared.now tables.known.now
   by-clauses = record { view = T.of_entry.view; state_marks = T.state_marks; declared_marks = T.declared_marks; known_marks = T.known_marks }
 
   -- the tables with another that has no parameter marked
-  abbrev pub cleaned : {marked : List Bool} → Marks T.of_entry.view.image (λ w. false) marked → ResolveTables nodes address state declared known fields marked builtin method
+  abbrev pub cleaned : {marked : List Bool} → Marks T.of_entry.view.image (λ w. false) marked → ResolveTables nodes tables marked
   cleaned M = record {
     of_entry = record { view = T.of_entry.view; address_number = T.of_entry.address_number; field_marks = T.of_entry.field_marks; clean = M; builtin_marks = T.of_entry.builtin_marks; method_marks = T.of_entry.method_marks };
     state_marks = T.state_marks;
@@ -71,15 +72,15 @@ module _ {nodes : List ℕ} {words : Words} {state : List Bool} (T : Looked node
   abbrev pub asset-words-of : AssetWords nodes words.qtov words.asset
   asset-words-of = record { view = T.view; qtov_is = T.words_are.qtov_is; asset_is = T.words_are.asset_is }
 
-  module _ {builtin method : List Bool} (b : Marks image is_builtin builtin) (m : Marks image is_method method) where
-    abbrev pub worded-of : CallTables nodes state builtin method
-    worded-of = record { view = T.view; state_marks = T.state_marks; builtin_marks = b; method_marks = m }
+  module _ {tables : Tables} (names : tables.state.now ≡ state) (b : Marks image is_builtin tables.builtin.now) (m : Marks image is_method tables.method.now) where
+    abbrev pub worded-of : CallTables nodes tables
+    worded-of = record { view = T.view; state_marks = rw names T.state_marks; builtin_marks = b; method_marks = m }
 
-    abbrev pub tables-of : {declared known fields : List Bool} → Marks image (is_declared_asset (tree_of T.view)) declared → Marks image (is_known_asset (tree_of T.view)) known → Marks image (is_state_typed (tree_of T.view) Q_Address) fields
-        → ResolveTables nodes words.address state declared known fields (replicate 1024 false) builtin method
-    tables-of d k a = record {
-      of_entry = record { view = T.view; address_number = T.words_are.address_is; field_marks = a; clean = none; builtin_marks = b; method_marks = m };
-      state_marks = T.state_marks;
+    abbrev pub tables-of : tables.address ≡ words.address → Marks image (is_declared_asset (tree_of T.view)) tables.declared.now → Marks image (is_known_asset (tree_of T.view)) tables.known.now → Marks image (is_state_typed (tree_of T.view) Q_Address) tables.fields.now
+        → ResolveTables nodes tables (replicate 1024 false)
+    tables-of n d k a = record {
+      of_entry = record { view = T.view; address_number = rw n T.words_are.address_is; field_marks = a; clean = none; builtin_marks = b; method_marks = m };
+      state_marks = rw names T.state_marks;
       declared_marks = d;
       known_marks = k;
     }

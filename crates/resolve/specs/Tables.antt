@@ -11,6 +11,7 @@ use Rattle.nodes.specs.Shown.{View, In, tree_of}
 use Rattle.nodes.specs.Marks.{Marks}
 use Rattle.names.specs.Found.{Numbered}
 use Rattle.resolve_calls.specs.Called.{is_builtin, is_method}
+use Rattle.resolve.specs.declared.Tables.{Tables}
 
 -- the number of `mint_asset`, and the state names
 pub record LentFirst (nodes : List ℕ) (mint : ℕ) (state : List Bool) : Type 0 where
@@ -20,27 +21,27 @@ pub record LentFirst (nodes : List ℕ) (mint : ℕ) (state : List Bool) : Type 
   pub state_marks : Marks view.image (is_state (tree_of view)) state
 
 -- the state names, and the words that a Call may call
-pub record CallTables (nodes : List ℕ) (state builtin method : List Bool) : Type 0 where
+pub record CallTables (nodes : List ℕ) (tables : Tables) : Type 0 where
   pub view : View nodes 0
-  pub state_marks : Marks view.image (is_state (tree_of view)) state
-  pub builtin_marks : Marks view.image is_builtin builtin
-  pub method_marks : Marks view.image is_method method
+  pub state_marks : Marks view.image (is_state (tree_of view)) tables.state.now
+  pub builtin_marks : Marks view.image is_builtin tables.builtin.now
+  pub method_marks : Marks view.image is_method tables.method.now
 
 -- these words, the number of `Q_Address`, the state fields of this type, and a table with no name marked
-pub record Called (nodes : List ℕ) (address : ℕ) (fields params builtin method : List Bool) : Type 0 where
+pub record Called (nodes : List ℕ) (tables : Tables) (params : List Bool) : Type 0 where
   pub view : View nodes 0
-  pub address_number : Numbered view.image Q_Address address
-  pub field_marks : Marks view.image (is_state_typed (tree_of view) Q_Address) fields
+  pub address_number : Numbered view.image Q_Address tables.address
+  pub field_marks : Marks view.image (is_state_typed (tree_of view) Q_Address) tables.fields.now
   pub clean : Marks view.image (λ w. false) params
-  pub builtin_marks : Marks view.image is_builtin builtin
-  pub method_marks : Marks view.image is_method method
+  pub builtin_marks : Marks view.image is_builtin tables.builtin.now
+  pub method_marks : Marks view.image is_method tables.method.now
 
 -- also the state names, the declared assets and the known assets
-pub record ResolveTables (nodes : List ℕ) (address : ℕ) (state declared known fields params builtin method : List Bool) : Type 0 where
-  pub of_entry : Called nodes address fields params builtin method
-  pub state_marks : Marks of_entry.view.image (is_state (tree_of of_entry.view)) state
-  pub declared_marks : Marks of_entry.view.image (is_declared_asset (tree_of of_entry.view)) declared
-  pub known_marks : Marks of_entry.view.image (is_known_asset (tree_of of_entry.view)) known
+pub record ResolveTables (nodes : List ℕ) (tables : Tables) (params : List Bool) : Type 0 where
+  pub of_entry : Called nodes tables params
+  pub state_marks : Marks of_entry.view.image (is_state (tree_of of_entry.view)) tables.state.now
+  pub declared_marks : Marks of_entry.view.image (is_declared_asset (tree_of of_entry.view)) tables.declared.now
+  pub known_marks : Marks of_entry.view.image (is_known_asset (tree_of of_entry.view)) tables.known.now
 
 -- 33 and 34 in an item; an entry's Calls; the rules of an entry in an item; the first six groups
 abbrev pub item33 : ℕ → Tree → List Rec
@@ -59,15 +60,15 @@ first_groups t = group20 t ++ (group21 t ++ (group22 t ++ (group23 t ++ (group24
 abbrev pub lent_first : (Tree → List Rec) → (nodes : List ℕ) (mint : ℕ) (state : List Bool) → LentFirst nodes mint state → Entered
 lent_first F nodes mint state T = on F (tree_of T.view)
 
-abbrev pub worded : (Tree → List Rec) → (nodes : List ℕ) (state builtin method : List Bool) → CallTables nodes state builtin method → Entered
-worded F nodes state builtin method T = on F (tree_of T.view)
+abbrev pub worded : (Tree → List Rec) → (nodes : List ℕ) (tables : Tables) → CallTables nodes tables → Entered
+worded F nodes tables T = on F (tree_of T.view)
 
-abbrev pub of_entry : (Tree → List Rec) → (nodes : List ℕ) (address : ℕ) (fields params builtin method : List Bool) → Called nodes address fields params builtin method → Entered
-of_entry F nodes address fields params builtin method T = on F (tree_of T.view)
+abbrev pub of_entry : (Tree → List Rec) → (nodes : List ℕ) (tables : Tables) (params : List Bool) → Called nodes tables params → Entered
+of_entry F nodes tables params T = on F (tree_of T.view)
 
-abbrev pub lent : (Tree → List Rec) → (nodes : List ℕ) (address : ℕ) (state declared known fields params builtin method : List Bool) → ResolveTables nodes address state declared known fields params builtin method → Entered
-lent F nodes address state declared known fields params builtin method T = on F (tree_of T.of_entry.view)
+abbrev pub lent : (Tree → List Rec) → (nodes : List ℕ) (tables : Tables) (params : List Bool) → ResolveTables nodes tables params → Entered
+lent F nodes tables params T = on F (tree_of T.of_entry.view)
 
 -- no parameter is marked afterwards
-abbrev pub CleansParams : (nodes : List ℕ) (address : ℕ) (fields params params' builtin method : List Bool) → Type 0
-CleansParams nodes address fields params params' builtin method = (T : Called nodes address fields params builtin method) → Marks T.view.image (λ w. false) params'
+abbrev pub CleansParams : (nodes : List ℕ) (tables : Tables) (params params' : List Bool) → Type 0
+CleansParams nodes tables params params' = (T : Called nodes tables params) → Marks T.view.image (λ w. false) params'

@@ -15,8 +15,21 @@ ghost use Rattle.resolve.specs.Tables.{LentFirst, CallTables, Called, ResolveTab
 use image::Image;
 use items::Items;
 use names::Words;
-use nodes::{Cursor, ENTRY, GENESIS, Marks, NAME};
+use nodes::{Children, ENTRY, GENESIS, Marks, NAME};
 use resolve_clauses::Rule;
+
+// What 33 to 40 ask: the number of `Q_Address`; and by name number the state names, the declared assets, the known assets,
+// the state fields of type `Q_Address`, and the words that a Call may call.
+#[derive(Clone, Copy)]
+struct Tables<'a> {
+    address: usize,
+    state: &'a Marks,
+    declared: &'a Marks,
+    known: &'a Marks,
+    fields: &'a Marks,
+    builtin: &'a Marks,
+    method: &'a Marks,
+}
 
 // 20, 21, 22, 23, 24 to 29, 30 and 31; `mint_asset` has the number `mint`.
 fn first_groups(nodes: &[u8], items: Items, mint: usize, state: &Marks, out: &mut [u16]) -> usize
@@ -32,53 +45,30 @@ fn first_groups(nodes: &[u8], items: Items, mint: usize, state: &Marks, out: &mu
 }
 
 // 33, then 34, in an item, if it is a Genesis.
-fn genesis(
-    nodes: &[u8],
-    item: usize,
-    state: &Marks,
-    builtin: &Marks,
-    method: &Marks,
-    out: &mut [u16],
-    count: usize,
-) -> usize
-    requires { CallTables nodes.now state.now builtin.now method.now × In nodes.now 0 item × (0 < item) × (count < 2 ^ 48) }
-    ensures { Adds (worded (item33 item) nodes.now state.now builtin.now method.now) 4096 out.old out.new count result }
+fn genesis(nodes: &[u8], item: usize, tables: Tables, out: &mut [u16], count: usize) -> usize
+    requires { CallTables nodes.now tables × In nodes.now 0 item × (0 < item) × (count < 2 ^ 48) }
+    ensures { Adds (worded (item33 item) nodes.now tables.entry) 4096 out.old out.new count result }
 {
     if nodes::kind(nodes, 0, item) != GENESIS {
         return count;
     }
-    let total = resolve_clauses::assigns(nodes, item, state, out, count);
+    let total = resolve_clauses::assigns(nodes, item, tables.state, out, count);
     let first = items::first_statement(nodes, 0, item);
     let body = items::statements(nodes, 0, item, first);
-    resolve_calls::calls34(body, first, 0, builtin, method, out, total)
+    resolve_calls::calls34(body, first, 0, tables.builtin, tables.method, out, total)
 }
 
 // 33 and 34: each Genesis; nothing where the contract has none.
-fn group33(
-    has: bool,
-    nodes: &[u8],
-    state: &Marks,
-    builtin: &Marks,
-    method: &Marks,
-    out: &mut [u16],
-    count: usize,
-) -> usize
-    requires { CallTables nodes.now state.now builtin.now method.now × In nodes.now 0 0 × (count < 2 ^ 40) × (has ≡ false → NoItem genesis nodes.now) }
-    ensures { Adds (worded group33 nodes.now state.now builtin.now method.now) (4096 * 2048) out.old out.new count result }
+fn group33(has: bool, nodes: &[u8], tables: Tables, out: &mut [u16], count: usize) -> usize
+    requires { CallTables nodes.now tables × In nodes.now 0 0 × (count < 2 ^ 40) × (has ≡ false → NoItem genesis nodes.now) }
+    ensures { Adds (worded group33 nodes.now tables.entry) (4096 * 2048) out.old out.new count result }
 {
     if !has {
         return count;
     }
-    let end = nodes::end(nodes, 0, 0);
     let mut total = count;
-    let mut children = Cursor {
-        base: 0,
-        at: 1,
-        end,
-    };
-    while children.at < children.end {
-        total = genesis(nodes, children.at, state, builtin, method, out, total);
-        children = children.step(nodes).rest;
+    for item in Children::of(nodes, 0, 0) {
+        total = genesis(nodes, item, tables, out, total);
     }
     total
 }
@@ -88,20 +78,19 @@ fn entry_calls(
     nodes: &[u8],
     entry: usize,
     first: usize,
-    address: usize,
-    fields: &Marks,
+    tables: Tables,
     params: &mut Marks,
-    builtin: &Marks,
-    method: &Marks,
     out: &mut [u16],
     count: usize,
 ) -> usize
-    requires { Called nodes.now address fields.now params.old builtin.now method.now × Head nodes.now 0 entry first × (count < 2 ^ 48) }
-    ensures adds { Adds (of_entry (entry_calls entry) nodes.now address fields.now params.old builtin.now method.now) 4096 out.old out.new count result }
-    ensures cleans_params { CleansParams nodes.now address fields.now params.old params.new builtin.now method.now }
+    requires { Called nodes.now tables params.old × Head nodes.now 0 entry first × (count < 2 ^ 48) }
+    ensures adds { Adds (of_entry (entry_calls entry) nodes.now tables.entry params.old) 4096 out.old out.new count result }
+    ensures cleans_params { CleansParams nodes.now tables.entry params.old params.new }
 {
+    let address = tables.address;
     resolve_calls::mark_params(nodes, entry, first, address, true, params);
     let body = items::statements(nodes, 0, entry, first);
+    let (fields, builtin, method) = (tables.fields, tables.builtin, tables.method);
     if resolve_calls::is_clean(body, first, fields, params, builtin, method) {
         resolve_calls::mark_params(nodes, entry, first, address, false, params);
         return count;
@@ -115,80 +104,46 @@ fn entry_calls(
 fn entry(
     nodes: &[u8],
     item: usize,
-    address: usize,
-    state: &Marks,
-    declared: &Marks,
-    known: &Marks,
-    fields: &Marks,
+    tables: Tables,
     params: &mut Marks,
-    builtin: &Marks,
-    method: &Marks,
     out: &mut [u16],
     count: usize,
 ) -> usize
-    requires { ResolveTables nodes.now address state.now declared.now known.now fields.now params.old builtin.now method.now × In nodes.now 0 item × (0 < item) × (count < 2 ^ 44) }
-    ensures adds { Adds (lent (item35 item) nodes.now address state.now declared.now known.now fields.now params.old builtin.now method.now) (2 ^ 23) out.old out.new count result }
-    ensures cleans_params { CleansParams nodes.now address fields.now params.old params.new builtin.now method.now }
+    requires { ResolveTables nodes.now tables params.old × In nodes.now 0 item × (0 < item) × (count < 2 ^ 44) }
+    ensures adds { Adds (lent (item35 item) nodes.now tables.entry params.old) (2 ^ 23) out.old out.new count result }
+    ensures cleans_params { CleansParams nodes.now tables.entry params.old params.new }
 {
     if nodes::kind(nodes, 0, item) != ENTRY {
         return count;
     }
     let first = items::first_statement(nodes, 0, item);
-    let signed = resolve_clauses::signers(
-        Rule(NAME, false, 35),
+    let rule = Rule {
+        kind: NAME,
+        on: false,
+        code: 35,
+    };
+    let signed = resolve_clauses::signers(rule, nodes, item, first, tables.state, out, count);
+    let listed = resolve_clauses::clauses(
         nodes,
         item,
         first,
-        state,
+        tables.state,
+        tables.declared,
+        tables.known,
         out,
-        count,
+        signed,
     );
-    let listed = resolve_clauses::clauses(nodes, item, first, state, declared, known, out, signed);
-    entry_calls(
-        nodes, item, first, address, fields, params, builtin, method, out, listed,
-    )
+    entry_calls(nodes, item, first, tables, params, out, listed)
 }
 
 // 35 to 40, and 34: the entries in order.
-fn group35(
-    nodes: &[u8],
-    address: usize,
-    state: &Marks,
-    declared: &Marks,
-    known: &Marks,
-    fields: &Marks,
-    params: &mut Marks,
-    builtin: &Marks,
-    method: &Marks,
-    out: &mut [u16],
-    count: usize,
-) -> usize
-    requires { ResolveTables nodes.now address state.now declared.now known.now fields.now params.old builtin.now method.now × In nodes.now 0 0 × (count < 2 ^ 40) }
-    ensures { Adds (lent group35 nodes.now address state.now declared.now known.now fields.now params.old builtin.now method.now) (2 ^ 34) out.old out.new count result }
+fn group35(nodes: &[u8], tables: Tables, params: &mut Marks, out: &mut [u16], count: usize) -> usize
+    requires { ResolveTables nodes.now tables params.old × In nodes.now 0 0 × (count < 2 ^ 40) }
+    ensures { Adds (lent group35 nodes.now tables.entry params.old) (2 ^ 34) out.old out.new count result }
 {
-    let end = nodes::end(nodes, 0, 0);
     let mut total = count;
-    let mut children = Cursor {
-        base: 0,
-        at: 1,
-        end,
-    };
-    while children.at < children.end {
-        total = entry(
-            nodes,
-            children.at,
-            address,
-            state,
-            declared,
-            known,
-            fields,
-            params,
-            builtin,
-            method,
-            out,
-            total,
-        );
-        children = children.step(nodes).rest;
+    for item in Children::of(nodes, 0, 0) {
+        total = entry(nodes, item, tables, params, out, total);
     }
     total
 }
@@ -209,28 +164,24 @@ fn last_groups(
     model::mark_declared(nodes, &mut declared);
     let mut known = declared;
     model::mark_known(nodes, words.qtov, words.asset, &mut known);
-    let address = words.address;
     let mut fields = [false; Image::NAMES];
-    resolve_calls::mark_fields(nodes, address, &mut fields);
+    resolve_calls::mark_fields(nodes, words.address, &mut fields);
     let mut builtin = [false; Image::NAMES];
     resolve_calls::mark_builtins(words.builtins, &mut builtin);
     let mut method = [false; Image::NAMES];
     resolve_calls::mark_methods(words.methods, &mut method);
     let mut params = [false; Image::NAMES];
-    let total = group33(has, nodes, state, &builtin, &method, out, count);
-    group35(
-        nodes,
-        address,
+    let tables = Tables {
+        address: words.address,
         state,
-        &declared,
-        &known,
-        &fields,
-        &mut params,
-        &builtin,
-        &method,
-        out,
-        total,
-    )
+        declared: &declared,
+        known: &known,
+        fields: &fields,
+        builtin: &builtin,
+        method: &method,
+    };
+    let total = group33(has, nodes, tables, out, count);
+    group35(nodes, tables, &mut params, out, total)
 }
 
 // The records of the resolve pass, from the buffer's start; words and state names were looked up before.

@@ -24,15 +24,15 @@ told false true = refl
 told false false = refl
 
 module _ (R : Rule) (P : List ℕ → Bool) (t : Tree) (p : ℕ) where
-  pub word-hit : {r : Bool} → r ≡ P (t.text p) → at_word R P t p ≡ only (beq r R.1) (rec R.2 p 0)
-  word-hit {r} e = ap (λ (a : Bool). only (pick R.1 a (not a)) (rec R.2 p 0)) (sym e) ∙ ap (λ (b : Bool). only b (rec R.2 p 0)) (told r R.1)
+  pub word-hit : {r : Bool} → r ≡ P (t.text p) → at_word R P t p ≡ only (beq r R.on) (rec R.code p 0)
+  word-hit {r} e = ap (λ (a : Bool). only (pick R.on a (not a)) (rec R.code p 0)) (sym e) ∙ ap (λ (b : Bool). only b (rec R.code p 0)) (told r R.on)
 
-  pub node-other : (t.kind p ≡ R.0 → ⊥) → at_node R P t p ≡ only false (rec R.2 p 0)
+  pub node-other : (t.kind p ≡ R.kind → ⊥) → at_node R P t p ≡ only false (rec R.code p 0)
   unfolding only
-  node-other n = keep-none (at_word R P t) p (has-not (t.kind p) R.0 n)
+  node-other n = keep-none (at_word R P t) p (has-not (t.kind p) R.kind n)
 
-  pub node-one : t.kind p ≡ R.0 → at_node R P t p ≡ at_word R P t p
-  node-one k = keep_one (at_word R P t) p (has_one (t.kind p) R.0 k)
+  pub node-one : t.kind p ≡ R.kind → at_node R P t p ≡ at_word R P t p
+  node-one k = keep_one (at_word R P t) p (has_one (t.kind p) R.kind k)
 
 pub carried : {j k : ℕ} → j ≡ k → CarriesWord k → CarriesWord j
 carried e (inl h) = inl (e ∙ h)

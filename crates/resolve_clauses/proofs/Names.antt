@@ -14,7 +14,7 @@ use Rattle.rules.specs.Model.{is_state, is_declared_asset, is_known_asset}
 use Rattle.rules.specs.Resolve.{rule33, clause_rule}
 use Rattle.records.proofs.Sweep.{run-same, keep_one, keep-none, has_one, has-not}
 use Rattle.nodes.specs.Shown.{tree_of}
-use Rattle.resolve_clauses.specs.Said.{OneTable, AssetMarks, at33, clause_rules, clause36}
+use Rattle.resolve_clauses.specs.Said.{OneTable, AssetMarks, at33, unmarked, clause_rules, clause36}
 
 module _ (t : Tree) (p : ℕ) where
   pub other-33 : (t.kind p ≡ 27 → ⊥) → at33 p t ≡ only false (rec 33 p 0)
@@ -34,10 +34,6 @@ module _ (t : Tree) (p : ℕ) where
       pub ident-33 : {b : Bool} → t.kind r ≡ 35 → b ≡ is_state t (t.text r) → at33 p t ≡ only (not b) (rec 33 p 0)
       unfolding rule33 at_bottom
       ident-33 i e = rw e (keep_one (rule33 t) p (has_one (t.kind p) 27 k) ∙ rw (sym d) (simp (lt-ltb r (t.end (p + 1)) l, eq-eqb (t.kind r) 35 i)))
-
--- a Name that the table does not mark
-abbrev pub unmarked : Tree → (List ℕ → Bool) → ℕ → ℕ → List Rec
-unmarked t P code p = only (not (P (t.text p))) (rec code p 0)
 
 below-same : (t : Tree) (ks : List ℕ) (a : ℕ) (f g : ℕ → List Rec) → ((p : ℕ) → f p ≡ g p) → below t ks a f ≡ below t ks a g
 unfolding below keep

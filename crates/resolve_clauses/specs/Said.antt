@@ -28,12 +28,16 @@ pub record AssetMarks (nodes : List ℕ) (state declared known : List Bool) : Ty
 abbrev pub CarriesWord : ℕ → Type 0
 CarriesWord k = (k ≡ 23) ⊎ (k ≡ 35)
 
--- a rule (kind, on, code) at the word of node p, where the table says P; at node p, if it is of the rule's kind
+-- a rule at the word of node p, where the table says P; at node p, if it is of the rule's kind
 abbrev pub at_word : Rule → (List ℕ → Bool) → Tree → ℕ → List Rec
-at_word R P t p = only (pick R.1 (P (t.text p)) (not (P (t.text p)))) (rec R.2 p 0)
+at_word R P t p = only (pick R.on (P (t.text p)) (not (P (t.text p)))) (rec R.code p 0)
 
 abbrev pub at_node : Rule → (List ℕ → Bool) → Tree → ℕ → List Rec
-at_node R P t p = keep (has (t.kind p) (R.0 ∷ [])) (at_word R P t) p
+at_node R P t p = keep (has (t.kind p) (R.kind ∷ [])) (at_word R P t) p
+
+-- a word that the table does not mark
+abbrev pub unmarked : Tree → (List ℕ → Bool) → ℕ → ℕ → List Rec
+unmarked t P code p = only (not (P (t.text p))) (rec code p 0)
 
 -- what F says of a signer, at node p, if it is a parameter that has one
 abbrev pub at_signer : (ℕ → List Rec) → Tree → ℕ → List Rec

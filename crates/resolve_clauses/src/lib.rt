@@ -3,7 +3,7 @@
 
 ghost use Rattle.std.specs.Prelude.{◌≡◌, Bool, true, false, List, [], ◌∷◌, ℕ, ◌+◌, ◌*◌, ◌-◌, ◌<◌, ◌≤◌, ◌^◌};
 ghost use Rattle.rules.specs.Sweep.{run};
-ghost use Rattle.rules.specs.Tree.{assign, naming};
+ghost use Rattle.rules.specs.Tree.{assign, name, naming};
 ghost use Rattle.rules.specs.Vocabulary.{below, signers};
 ghost use Rattle.rules.specs.Resolve.{rule33};
 ghost use Rattle.records.specs.Records.{Adds, Asks, within};
@@ -13,30 +13,34 @@ ghost use Rattle.nodes.specs.Marks.{Marks};
 ghost use Rattle.nodes.specs.First.{Head};
 ghost use Rattle.nodes.specs.State.{State, seen};
 ghost use Rattle.nodes.specs.Span.{Span};
-ghost use Rattle.resolve_clauses.specs.Said.{OneTable, CarriesWord, AssetMarks, told, listed, at_word, at_node, at_signer, at33, clause_rules, clause36};
+ghost use Rattle.resolve_clauses.specs.Said.{OneTable, CarriesWord, AssetMarks, told, listed, at_word, at_node, at_signer, at33, unmarked, clause_rules, clause36};
 
 use nodes::{
-    ASSIGN, BURNS, CONSERVES, Cursor, IDENT, MINTS, Marks, NAME, PARAM, Past, READS, WRITES,
+    ASSIGN, BURNS, CONSERVES, Children, IDENT, MINTS, Marks, NAME, PARAM, Past, READS, WRITES,
 };
 
-// A rule about words: kind, on, code. At a node of this kind whose word is marked, or (off) is not, it finds its code.
+// A rule about words. At a node of its kind whose word is marked, or (off) is not, it finds its code.
 #[derive(Clone, Copy)]
-pub struct Rule(pub usize, pub bool, pub u16);
+pub struct Rule {
+    pub kind: usize,
+    pub on: bool,
+    pub code: u16,
+}
 
 // Whether the rule finds its offence in the word of node p.
 fn is_hit(rule: Rule, nodes: &[u8], base: usize, p: usize, marks: &Marks) -> bool
     requires { Worded nodes.now base p }
-    ensures { Asks (told (λ P t. at_word rule P t p) nodes.now base marks.now) rule.2 p result }
+    ensures { Asks (told (λ P t. at_word rule P t p) nodes.now base marks.now) rule.code p result }
 {
-    nodes::is_marked(marks, nodes, base, p) == rule.1
+    nodes::is_marked(marks, nodes, base, p) == rule.on
 }
 
 // Whether the rule finds its offence at node p.
 fn finds(rule: Rule, nodes: &[u8], base: usize, p: usize, marks: &Marks) -> bool
-    requires { View nodes.now base × CarriesWord rule.0 × In nodes.now base p }
-    ensures { Asks (told (λ P t. at_node rule P t p) nodes.now base marks.now) rule.2 p result }
+    requires { View nodes.now base × CarriesWord rule.kind × In nodes.now base p }
+    ensures { Asks (told (λ P t. at_node rule P t p) nodes.now base marks.now) rule.code p result }
 {
-    if nodes::kind(nodes, base, p) != rule.0 {
+    if nodes::kind(nodes, base, p) != rule.kind {
         return false;
     }
     is_hit(rule, nodes, base, p, marks)
@@ -54,21 +58,19 @@ pub fn words(
     out: &mut [u16],
     count: usize,
 ) -> usize
-    requires { OneTable nodes.now base marks.now × CarriesWord rule.0 × Span nodes.now base from end × (count < 2 ^ 50) × (entry < 2048) }
+    requires { OneTable nodes.now base marks.now × CarriesWord rule.kind × Span nodes.now base from end × (count < 2 ^ 50) × (entry < 2048) }
     ensures { Adds (within entry from end (told (λ P t. run (at_node rule P t) from (end - from)) nodes.now base marks.now)) 2048 out.old out.new count result }
 {
     let mut total = count;
-    let mut p = from;
-    while p < end {
+    for p in from..end {
         total = records::emit_if(
             finds(rule, nodes, base, p, marks),
             out,
             total,
-            rule.2,
+            rule.code,
             p,
             entry,
         );
-        p += 1;
     }
     total
 }
@@ -83,8 +85,8 @@ pub fn within(
     out: &mut [u16],
     count: usize,
 ) -> usize
-    requires { OneTable nodes.now 0 marks.now × CarriesWord rule.0 × In nodes.now 0 node × (count < 2 ^ 50) × (entry < 2048) }
-    ensures { Adds (in_node entry nodes.now node (told (λ P t. below t (rule.0 ∷ []) node (at_word rule P t)) nodes.now 0 marks.now)) 2048 out.old out.new count result }
+    requires { OneTable nodes.now 0 marks.now × CarriesWord rule.kind × In nodes.now 0 node × (count < 2 ^ 50) × (entry < 2048) }
+    ensures { Adds (in_node entry nodes.now node (told (λ P t. below t (rule.kind ∷ []) node (at_word rule P t)) nodes.now 0 marks.now)) 2048 out.old out.new count result }
 {
     let end = nodes::end(nodes, 0, node);
     words(rule, nodes, 0, node + 1, end, entry, marks, out, count)
@@ -114,7 +116,7 @@ fn signer(
         is_hit(rule, nodes, 0, s, marks),
         out,
         count,
-        rule.2,
+        rule.code,
         s,
         entry,
     )
@@ -134,14 +136,8 @@ pub fn signers(
     ensures { Adds (told (λ P t. signers t entry (at_word rule P t)) nodes.now 0 marks.now) 2048 out.old out.new count result }
 {
     let mut total = count;
-    let mut children = Cursor {
-        base: 0,
-        at: entry + 1,
-        end: to,
-    };
-    while children.at < children.end {
-        total = signer(rule, nodes, entry, children.at, marks, out, total);
-        children = children.step(nodes).rest;
+    for part in Children::heads(nodes, entry, to) {
+        total = signer(rule, nodes, entry, part, marks, out, total);
     }
     total
 }
@@ -169,19 +165,39 @@ pub fn assigns(nodes: &[u8], genesis: usize, state: &Marks, out: &mut [u16], cou
     requires { State nodes.now 0 state.now × In nodes.now 0 genesis × (0 < genesis) × (count < 2 ^ 50) }
     ensures { Adds (in_node 0 nodes.now genesis (seen (λ t. below t assign genesis (rule33 t)) nodes.now 0 state.now)) 2048 out.old out.new count result }
 {
-    let to = nodes::end(nodes, 0, genesis);
     let mut total = count;
-    let mut children = Cursor {
-        base: 0,
-        at: genesis + 1,
-        end: to,
-    };
-    while children.at < children.end {
-        let p = children.at;
-        total = records::emit_if(rule33(nodes, p, state), out, total, 33, p, 0);
-        children = children.step(nodes).rest;
+    for statement in Children::of(nodes, 0, genesis) {
+        total = records::emit_if(
+            rule33(nodes, statement, state),
+            out,
+            total,
+            33,
+            statement,
+            0,
+        );
     }
     total
+}
+
+// The Names of a clause that the table does not mark.
+fn unmarked(
+    code: u16,
+    nodes: &[u8],
+    clause: usize,
+    entry: usize,
+    marks: &Marks,
+    out: &mut [u16],
+    count: usize,
+) -> usize
+    requires { OneTable nodes.now 0 marks.now × In nodes.now 0 clause × (count < 2 ^ 50) × (entry < 2048) }
+    ensures { Adds (in_node entry nodes.now clause (told (λ P t. below t name clause (unmarked t P code)) nodes.now 0 marks.now)) 2048 out.old out.new count result }
+{
+    let rule = Rule {
+        kind: NAME,
+        on: false,
+        code,
+    };
+    within(rule, nodes, clause, entry, marks, out, count)
 }
 
 // 36 to 39 in a child of the entry: the names that a clause may not name.
@@ -199,10 +215,10 @@ fn clause(
     ensures { Adds (in_node entry nodes.now p (listed (λ t. clause36 t p) nodes.now state.now declared.now known.now)) 2048 out.old out.new count result }
 {
     match nodes::kind(nodes, 0, p) {
-        WRITES..=READS => within(Rule(NAME, false, 36), nodes, p, entry, state, out, count),
-        CONSERVES => within(Rule(NAME, false, 37), nodes, p, entry, known, out, count),
-        MINTS => within(Rule(NAME, false, 38), nodes, p, entry, declared, out, count),
-        BURNS => within(Rule(NAME, false, 39), nodes, p, entry, declared, out, count),
+        WRITES..=READS => unmarked(36, nodes, p, entry, state, out, count),
+        CONSERVES => unmarked(37, nodes, p, entry, known, out, count),
+        MINTS => unmarked(38, nodes, p, entry, declared, out, count),
+        BURNS => unmarked(39, nodes, p, entry, declared, out, count),
         _ => count,
     }
 }
@@ -222,23 +238,8 @@ pub fn clauses(
     ensures { Adds (listed (λ t. below t naming entry (clause_rules t)) nodes.now state.now declared.now known.now) (2048 * 2048) out.old out.new count result }
 {
     let mut total = count;
-    let mut children = Cursor {
-        base: 0,
-        at: entry + 1,
-        end: to,
-    };
-    while children.at < children.end {
-        total = clause(
-            nodes,
-            entry,
-            children.at,
-            state,
-            declared,
-            known,
-            out,
-            total,
-        );
-        children = children.step(nodes).rest;
+    for part in Children::heads(nodes, entry, to) {
+        total = clause(nodes, entry, part, state, declared, known, out, total);
     }
     total
 }

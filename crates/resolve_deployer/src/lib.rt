@@ -12,8 +12,28 @@ ghost use Rattle.nodes.specs.First.{Head};
 ghost use Rattle.resolve_deployer.specs.Deployed.{Deployed, DeployerIs, IsEntry, deployed, by_deployer, ident_rules, clause32, item32};
 
 use image::Image;
-use nodes::{AFTER, Cursor, ENTRY, IDENT, INVARIANT, LIMITS, Marks, NAME};
+use nodes::{AFTER, Children, ENTRY, IDENT, INVARIANT, LIMITS, Marks, NAME};
 use resolve_clauses::Rule;
+
+// 32 in the Idents below a node, which stands in an entry (0: in none).
+fn idents32(
+    nodes: &[u8],
+    node: usize,
+    entry: usize,
+    deployer: &Marks,
+    out: &mut [u16],
+    count: usize,
+) -> usize
+    requires { Deployed nodes.now 0 deployer.now × In nodes.now 0 node × (count < 2 ^ 50) × (entry < 2048) }
+    ensures { Adds (in_node entry nodes.now node (deployed (λ t. ident_rules t node) nodes.now 0 deployer.now)) 2048 out.old out.new count result }
+{
+    let rule = Rule {
+        kind: IDENT,
+        on: true,
+        code: 32,
+    };
+    resolve_clauses::within(rule, nodes, node, entry, deployer, out, count)
+}
 
 // 32 in a child of the entry, if it is a Limits, Denies or After clause.
 fn clause32(
@@ -28,15 +48,7 @@ fn clause32(
     ensures { Adds (in_node entry nodes.now p (deployed (λ t. clause32 t p) nodes.now 0 deployer.now)) 2048 out.old out.new count result }
 {
     match nodes::kind(nodes, 0, p) {
-        LIMITS..=AFTER => resolve_clauses::within(
-            Rule(IDENT, true, 32),
-            nodes,
-            p,
-            entry,
-            deployer,
-            out,
-            count,
-        ),
+        LIMITS..=AFTER => idents32(nodes, p, entry, deployer, out, count),
         _ => count,
     }
 }
@@ -54,14 +66,8 @@ fn clauses32(
     ensures { Adds (deployed (λ t. below t limits_denies_after entry (ident_rules t)) nodes.now 0 deployer.now) (2048 * 2048) out.old out.new count result }
 {
     let mut total = count;
-    let mut children = Cursor {
-        base: 0,
-        at: entry + 1,
-        end: to,
-    };
-    while children.at < children.end {
-        total = clause32(nodes, entry, children.at, deployer, out, total);
-        children = children.step(nodes).rest;
+    for part in Children::heads(nodes, entry, to) {
+        total = clause32(nodes, entry, part, deployer, out, total);
     }
     total
 }
@@ -72,27 +78,20 @@ fn entry32(nodes: &[u8], entry: usize, deployer: &Marks, out: &mut [u16], count:
     ensures { Adds (deployed (λ t. deployer_in t entry) nodes.now 0 deployer.now) (2 ^ 23) out.old out.new count result }
 {
     let first = items::first_statement(nodes, 0, entry);
-    let signed = resolve_clauses::signers(
-        Rule(NAME, true, 32),
-        nodes,
-        entry,
-        first,
-        deployer,
-        out,
-        count,
-    );
+    let names = Rule {
+        kind: NAME,
+        on: true,
+        code: 32,
+    };
+    let signed = resolve_clauses::signers(names, nodes, entry, first, deployer, out, count);
     let body = items::statements(nodes, 0, entry, first);
     let end = nodes::end(nodes, 0, entry);
+    let idents = Rule {
+        kind: IDENT,
+        ..names
+    };
     let said = resolve_clauses::words(
-        Rule(IDENT, true, 32),
-        body,
-        first,
-        first,
-        end,
-        entry,
-        deployer,
-        out,
-        signed,
+        idents, body, first, first, end, entry, deployer, out, signed,
     );
     clauses32(nodes, entry, first, deployer, out, said)
 }
@@ -104,15 +103,7 @@ fn item32(nodes: &[u8], item: usize, deployer: &Marks, out: &mut [u16], count: u
 {
     match nodes::kind(nodes, 0, item) {
         ENTRY => entry32(nodes, item, deployer, out, count),
-        INVARIANT => resolve_clauses::within(
-            Rule(IDENT, true, 32),
-            nodes,
-            item,
-            0,
-            deployer,
-            out,
-            count,
-        ),
+        INVARIANT => idents32(nodes, item, 0, deployer, out, count),
         _ => count,
     }
 }
@@ -122,16 +113,9 @@ fn items32(nodes: &[u8], deployer: &Marks, out: &mut [u16], count: usize) -> usi
     requires { Deployed nodes.now 0 deployer.now × In nodes.now 0 0 × (count < 2 ^ 40) }
     ensures { Adds (deployed group32 nodes.now 0 deployer.now) (2 ^ 34) out.old out.new count result }
 {
-    let to = nodes::end(nodes, 0, 0);
     let mut total = count;
-    let mut children = Cursor {
-        base: 0,
-        at: 1,
-        end: to,
-    };
-    while children.at < children.end {
-        total = item32(nodes, children.at, deployer, out, total);
-        children = children.step(nodes).rest;
+    for item in Children::of(nodes, 0, 0) {
+        total = item32(nodes, item, deployer, out, total);
     }
     total
 }

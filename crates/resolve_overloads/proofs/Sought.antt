@@ -21,10 +21,11 @@ use Rattle.records.proofs.Sweep.{has_one, has-not, keep_one, keep-none}
 use Rattle.nodes.specs.Shown.{View, In, tree_of}
 use Rattle.nodes.specs.Marks.{Marks, marking}
 use Rattle.nodes.proofs.Names.{same-is, marks-as, marks-none, either-false}
-use Rattle.nodes.proofs.Parts.{past, formed}
+use Rattle.nodes.proofs.Parts.{formed}
 use Rattle.nodes.proofs.Marking.{some-on}
 use Rattle.signature.specs.Alike.{signed_as}
 use Rattle.resolve_overloads.specs.Entries.{earlier, at23, noted_entry}
+use Rattle.resolve_overloads.specs.declared.Kept.{Kept}
 use Rattle.resolve_overloads.specs.Keys.{is_new, falls_to, key_of, slot, Chains, Sought, Likely}
 use Rattle.signature.proofs.Reading.{below-count}
 use Rattle.resolve_overloads.proofs.Turns.{root-holds}
@@ -147,7 +148,7 @@ unfolding earlier
 seen-on {p = p} {q = q} W l B M = marks-as (λ w. sym (some-on (λ i. also (has ((tree_of W).kind i) entry) (named (tree_of W) w) i) 1 p q l (next-on W B) (λ j a c. ap (λ (x : Bool). also x (named (tree_of W) w) j) (between W B j a c)))) M
 
 -- the entry e, sought among the entries before it
-module _ {nodes : List ℕ} {e key : ℕ} {heads links keys : List ℕ} (S : Sought nodes e key heads links keys) where
+module _ {nodes : List ℕ} {e key : ℕ} {kept : Kept} (S : Sought nodes e key kept) where
   module _ {g : ℕ} (K : Seeking S.it.view.image e (slot key) g) where
     pub sought-none : g ≤ 0 → e ≡ first_signed (tree_of S.it.view) (signature (tree_of S.it.view) e)
     sought-none l = first_none S.it.view S.it.here S.it.is S.it.low (λ j z h t. K.past j (omega arith) h (subst (λ (x : ℕ). falls_to S.it.view.image (slot x) j ≡ true) (sym S.of_e) t))
@@ -156,7 +157,7 @@ module _ {nodes : List ℕ} {e key : ℕ} {heads links keys : List ℕ} (S : Sou
       pub sought-in : In nodes 0 g
       sought-in = let i = S.it.here in let x = i.1 in let y = i.2 in (omega arith, omega arith, omega arith)
 
-      abbrev pub likely : Likely nodes g e key keys
+      abbrev pub likely : Likely nodes g e key kept
       likely = record {
         pair = record { view = S.it.view; there_g = sought-in; there_e = S.it.here; is_g = seek-entry S.chains K l h; is_e = S.it.is };
         of_g = S.chains.key g l h (seek-new S.chains K l h);

@@ -5,8 +5,8 @@ use mathlib.Core.Path.{◌≡◌, refl, sym, ap, ◌∙◌, subst}
 use mathlib.Core.Bool.{Bool, true, false, not}
 use mathlib.Core.List.{List}
 use borrow.Author.Tests.{eq-eqb, ne_eqb}
-use lib.Dec.{eqb, ltb}
-use Rattle.image.specs.Pick.{both, every}
+use lib.Dec.{eqb}
+use Rattle.image.specs.Pick.{every}
 use Rattle.image.specs.Text.{text_of}
 use Rattle.image.specs.Admit.{names_of, text_part}
 use Rattle.image.proofs.Every.{both_false, every-fails, every-all}
@@ -67,11 +67,6 @@ module _ (t : Tree) (i j d : ℕ) where
 
 pub type-nodes : {part : List ℕ} {b i : ℕ} (W : View part b) → In part b i → (d : ℕ) → d < (tree_of W).end i - i → In part b (i + d)
 type-nodes W i d l = let u = (past W i).1 in let x = i.0 in there W (omega arith) (omega arith)
-
--- whether a parameter of the entry x stands at p, as it is asked
-module _ (t : Tree) (x p : ℕ) where
-  pub asked : {to : ℕ} {r : Bool} → r ≡ both (ltb p to) (eqb (t.kind p) 10) → to ≡ t.end x → r ≡ is_param t x p
-  asked e d = e ∙ ap (λ (y : ℕ). both (ltb p y) (eqb (t.kind p) 10)) d
 
 -- two entries, by whichever image they are seen
 abbrev pub by : {nodes : List ℕ} {g e : ℕ} → Entries nodes g e → View nodes 0 → Entries nodes g e

@@ -5,6 +5,8 @@ use Rattle.rules.specs.Tree.{Tree, entry}
 use Rattle.rules.specs.Vocabulary.{Rec, named}
 use Rattle.rules.specs.Resolve.{rule23}
 use Rattle.nodes.specs.Shown.{View, In, tree_of}
+use Rattle.nodes.specs.Chain.{Stepped}
+use Rattle.nodes.specs.declared.walk.Children.{Children}
 use Rattle.nodes.specs.Marks.{Marks}
 
 -- an entry before node p has the name w
@@ -42,3 +44,17 @@ noted_entry t p w = either (earlier t p w) (also (has (t.kind p) entry) (named t
 -- the answer no: no record is due at p, and its name is marked too
 abbrev pub Passes : (nodes : List ℕ) (p : ℕ) (seen seen' : List Bool) → Bool → Type 0
 Passes nodes p seen seen' r = (S : Seen nodes p seen) → r ≡ false → (at23 p (tree_of S.view) ≡ []) × Marks S.view.image (noted_entry (tree_of S.view) p) seen'
+
+-- a walk over children that went on: it stays in its part and keeps its end
+pub record NextParam (s t : Children) : Type 0 where
+  pub nodes : t.nodes.now ≡ s.nodes.now
+  pub base : t.base ≡ s.base
+  pub last : t.to ≡ s.to
+
+-- it gave a parameter; and it stood at none
+pub record AtParam (s t : Children) (p : ℕ) : Type 0 where
+  pub step : Stepped s.nodes.now s.base s.at s.to p t.at
+  pub is : (W : View s.nodes.now 0) → (tree_of W).kind p ≡ 10
+
+pub record AtNoParam (s : Children) : Type 0 where
+  pub is : (W : View s.nodes.now 0) → s.at < s.to → (tree_of W).kind s.at ≡ 10 → ⊥

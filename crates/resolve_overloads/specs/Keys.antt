@@ -9,6 +9,7 @@ use Rattle.rules.specs.Resolve.{signature, first_signed}
 use Rattle.records.specs.Records.{Entered, on}
 use Rattle.nodes.specs.Shown.{View, tree_of, number}
 use Rattle.signature.specs.Keys.{is_param}
+use Rattle.resolve_overloads.specs.declared.Kept.{Kept}
 use Rattle.resolve_overloads.specs.Entries.{Entries, EntryAt}
 
 -- one more node in a key: two polynomials side by side, modulo primes below 2 ^ 31
@@ -60,25 +61,25 @@ pub record Chains (s : List ℕ) (p : ℕ) (heads links keys : List ℕ) : Type 
   pub link : (i : ℕ) → 0 < i → i < p → is_new s i ≡ true → get_or links i 0 ≡ last (falls_to s (slot (key_of s i))) i
   pub key : (i : ℕ) → 0 < i → i < p → is_new s i ≡ true → get_or keys i 0 ≡ key_of s i
 
-pub record Chained (nodes : List ℕ) (p : ℕ) (heads links keys : List ℕ) : Type 0 where
+pub record Chained (nodes : List ℕ) (p : ℕ) (kept : Kept) : Type 0 where
   pub view : View nodes 0
-  pub chains : Chains view.image p heads links keys
+  pub chains : Chains view.image p kept.heads kept.links kept.keys
 
 -- two entries, with the key of e and the table that has the key of g
-pub record Likely (nodes : List ℕ) (g e key : ℕ) (keys : List ℕ) : Type 0 where
+pub record Likely (nodes : List ℕ) (g e key : ℕ) (kept : Kept) : Type 0 where
   pub pair : Entries nodes g e
-  pub of_g : get_or keys g 0 ≡ key_of pair.view.image g
+  pub of_g : get_or kept.keys g 0 ≡ key_of pair.view.image g
   pub of_e : key ≡ key_of pair.view.image e
 
 -- an entry with its key, and the entries before it
-pub record Sought (nodes : List ℕ) (e key : ℕ) (heads links keys : List ℕ) : Type 0 where
+pub record Sought (nodes : List ℕ) (e key : ℕ) (kept : Kept) : Type 0 where
   pub it : EntryAt nodes e
   pub of_e : key ≡ key_of it.view.image e
-  pub chains : Chains it.view.image e heads links keys
+  pub chains : Chains it.view.image e kept.heads kept.links kept.keys
 
 -- what F says of the tree of the nodes that are lent; and the tables have the item too
-abbrev pub chained : (Tree → List Rec) → (nodes : List ℕ) (p : ℕ) (heads links keys : List ℕ) → Chained nodes p heads links keys → Entered
-chained F nodes p heads links keys C = on F (tree_of C.view)
+abbrev pub chained : (Tree → List Rec) → (nodes : List ℕ) (p : ℕ) (kept : Kept) → Chained nodes p kept → Entered
+chained F nodes p kept C = on F (tree_of C.view)
 
-abbrev pub Chaining : (nodes : List ℕ) (p : ℕ) (heads heads' links links' keys keys' : List ℕ) → Type 0
-Chaining nodes p heads heads' links links' keys keys' = (C : Chained nodes p heads links keys) → Chains C.view.image (p + 1) heads' links' keys'
+abbrev pub Chaining : (nodes : List ℕ) (p : ℕ) (kept kept' : Kept) → Type 0
+Chaining nodes p kept kept' = (C : Chained nodes p kept) → Chains C.view.image (p + 1) kept'.heads kept'.links kept'.keys

@@ -3,24 +3,24 @@
 // a number made of its name and its types, and only the first entry of each signature is kept to be compared with.
 #![tactic(auto)]
 
-ghost use Rattle.std.specs.Prelude.{◌≡◌, false, [], ℕ, ◌+◌, ◌*◌, ◌<◌, ◌≤◌, ◌^◌, ltb, eqb, get_or, set};
-ghost use Rattle.image.specs.Pick.{both};
+ghost use Rattle.std.specs.Prelude.{◌≡◌, false, [], ℕ, ◌+◌, ◌*◌, ◌<◌, ◌≤◌, ◌^◌, get_or, set, MatchOption};
 ghost use Rattle.rules.specs.Resolve.{signature, first_signed, group23};
 ghost use Rattle.records.specs.Records.{Adds, on};
 ghost use Rattle.nodes.specs.Shown.{View, In, tree_of};
 ghost use Rattle.signature.specs.Alike.{same_node, same_type, signed_as};
-ghost use Rattle.resolve_overloads.specs.Entries.{Entries, EntryAt, Seen, at23, Passes};
+ghost use Rattle.resolve_overloads.specs.Entries.{Entries, EntryAt, Seen, at23, Passes, NextParam, AtParam, AtNoParam};
 ghost use Rattle.resolve_overloads.specs.Keys.{mix, token, type_key, key_of, slot, Chained, Likely, Sought, chained, Chaining};
 
 use image::Image;
-use nodes::{Cursor, ENTRY, Marks, PARAM};
+use nodes::{Children, ENTRY, Marks, PARAM};
 
 // The entries kept: the last one of each slot, for each node the entry before it in its slot (0 is none), and its key.
-type Heads = [u16; 4096];
-
-type Links = [u16; Image::NODES];
-
-type Keys = [usize; Image::NODES];
+#[derive(Drop)]
+struct Kept {
+    heads: [u16; 4096],
+    links: [u16; Image::NODES],
+    keys: [usize; Image::NODES],
+}
 
 // Whether the nodes p and q are of one kind, carry one name and are as long.
 fn same_node(nodes: &[u8], p: usize, q: usize) -> bool
@@ -47,25 +47,24 @@ fn same_type(nodes: &[u8], i: usize, j: usize) -> bool
         return false;
     }
     let n = e - i;
-    let mut d = 0;
-    while d < n {
+    for d in 0..n {
         if !same_node(nodes, i + d, j + d) {
             return false;
         }
-        d += 1;
     }
     true
 }
 
-// Whether a parameter stands at p, before e.
-fn is_param(nodes: &[u8], p: usize, e: usize) -> bool
-    requires { p < e → In nodes.now 0 p }
-    ensures { (W : View nodes.now 0) → result ≡ both (ltb p e) (eqb ((tree_of W).kind p) 10) }
+// The next child of an entry, if it is a parameter.
+fn next_param(children: &mut Children) -> Option<usize>
+    requires { children.old.base ≡ 0 }
+    ensures { NextParam children.old children.new × MatchOption result (AtNoParam children.old) (AtParam children.old children.new) }
 {
-    if e <= p {
-        return false;
+    let p = children.next()?;
+    if nodes::kind(children.nodes, 0, p) != PARAM {
+        return None;
     }
-    nodes::kind(nodes, 0, p) == PARAM
+    Some(p)
 }
 
 // Whether the entries g and e have one signature: one name, and the same types in order.
@@ -76,40 +75,17 @@ fn same_signature(nodes: &[u8], g: usize, e: usize) -> bool
     if nodes::name(nodes, 0, g + 1) != nodes::name(nodes, 0, e + 1) {
         return false;
     }
-    let to_g = nodes::end(nodes, 0, g);
-    let to_e = nodes::end(nodes, 0, e);
-    let mut ours = Cursor {
-        base: 0,
-        at: g + 2,
-        end: to_g,
-    };
-    let mut theirs = Cursor {
-        base: 0,
-        at: e + 2,
-        end: to_e,
-    };
-    loop {
-        let p = ours.at;
-        let q = theirs.at;
-        if !is_param(nodes, p, to_g) {
-            return !is_param(nodes, q, to_e);
-        }
-        if !is_param(nodes, q, to_e) {
+    let mut ours = Children::from(nodes, 0, g, g + 2);
+    let mut theirs = Children::from(nodes, 0, e, e + 2);
+    while let Some(p) = next_param(&mut ours) {
+        let Some(q) = next_param(&mut theirs) else {
             return false;
-        }
+        };
         if !same_type(nodes, p + 2, q + 2) {
             return false;
         }
-        ours = ours.step(nodes).rest;
-        theirs = theirs.step(nodes).rest;
     }
-}
-
-// A u16 as an index.
-fn wide(x: u16) -> usize
-    ensures { (result ≡ x) × (result < 65536) }
-{
-    x as usize
+    next_param(&mut theirs).is_none()
 }
 
 // What node p adds to a key.
@@ -137,10 +113,8 @@ fn type_key(nodes: &[u8], key: usize, y: usize) -> usize
 {
     let end = nodes::end(nodes, 0, y);
     let mut k = key;
-    let mut p = y;
-    while p < end {
+    for p in y..end {
         k = mix(k, token(nodes, p));
-        p += 1;
     }
     k
 }
@@ -150,20 +124,12 @@ fn entry_key(nodes: &[u8], e: usize) -> usize
     requires { EntryAt nodes.now e }
     ensures { (W : View nodes.now 0) → result ≡ key_of W.image e }
 {
-    let to = nodes::end(nodes, 0, e);
     let mut key = nodes::name(nodes, 0, e + 1);
-    let mut children = Cursor {
-        base: 0,
-        at: e + 2,
-        end: to,
-    };
-    while children.at < children.end {
-        let p = children.at;
-        if nodes::kind(nodes, 0, p) != PARAM {
+    for param in Children::from(nodes, 0, e, e + 2) {
+        if nodes::kind(nodes, 0, param) != PARAM {
             return key;
         }
-        key = type_key(nodes, key, p + 2);
-        children = children.step(nodes).rest;
+        key = type_key(nodes, key, param + 2);
     }
     key
 }
@@ -178,70 +144,57 @@ fn slot(key: usize) -> usize
     2048 + key % 2048
 }
 
-// Whether the entries g and e have one signature: entries of other keys are not compared.
-fn is_signed(nodes: &[u8], g: usize, e: usize, key: usize, keys: &Keys) -> bool
-    requires { Likely nodes.now g e key keys.now }
-    ensures { (L : Likely nodes.now g e key keys.now) → result ≡ signed_as (tree_of L.pair.view) e g }
-{
-    if keys[g] != key {
-        return false;
-    }
-    same_signature(nodes, g, e)
-}
-
-// The first entry that has the signature of the entry e.
-fn first_signed(
-    nodes: &[u8],
-    e: usize,
-    key: usize,
-    heads: &Heads,
-    links: &Links,
-    keys: &Keys,
-) -> usize
-    requires { Sought nodes.now e key heads.now links.now keys.now }
-    ensures { (result ≤ e) × ((S : Sought nodes.now e key heads.now links.now keys.now) → result ≡ first_signed (tree_of S.it.view) (signature (tree_of S.it.view) e)) }
-{
-    let at = slot(key);
-    let mut g = wide(heads[at]);
-    while 0 < g {
-        if is_signed(nodes, g, e, key, keys) {
-            return g;
+impl Kept {
+    // Whether the kept entry g and the entry e have one signature: entries of other keys are not compared.
+    fn is_signed(&self, nodes: &[u8], g: usize, e: usize, key: usize) -> bool
+        requires { Likely nodes.now g e key self.now }
+        ensures { (L : Likely nodes.now g e key self.now) → result ≡ signed_as (tree_of L.pair.view) e g }
+    {
+        if self.keys[g] != key {
+            return false;
         }
-        g = wide(links[g]);
+        same_signature(nodes, g, e)
     }
-    e
-}
 
-// An entry is kept: it is the last one of its slot.
-fn enter(entry: usize, key: usize, heads: &mut Heads, links: &mut Links, keys: &mut Keys)
-    requires { entry < 2048 }
-    ensures { (heads.new ≡ set heads.old (slot key) entry) × (links.new ≡ set links.old entry (get_or heads.old (slot key) 0)) × (keys.new ≡ set keys.old entry key) }
-{
-    let at = slot(key);
-    keys[entry] = key;
-    links[entry] = heads[at];
-    heads[at] = entry as u16;
+    // The first entry that has the signature of the entry e. The walk goes from link to link, not by a counter.
+    fn first_signed(&self, nodes: &[u8], e: usize, key: usize) -> usize
+        requires { Sought nodes.now e key self.now }
+        ensures { (result ≤ e) × ((S : Sought nodes.now e key self.now) → result ≡ first_signed (tree_of S.it.view) (signature (tree_of S.it.view) e)) }
+    {
+        let at = slot(key);
+        let mut g = usize::from(self.heads[at]);
+        while 0 < g {
+            if self.is_signed(nodes, g, e, key) {
+                return g;
+            }
+            g = usize::from(self.links[g]);
+        }
+        e
+    }
+
+    // An entry is kept: it is the last one of its slot.
+    fn enter(&mut self, entry: usize, key: usize)
+        requires { entry < 2048 }
+        ensures { (self.new.heads ≡ set self.old.heads (slot key) entry) × (self.new.links ≡ set self.old.links entry (get_or self.old.heads (slot key) 0)) × (self.new.keys ≡ set self.old.keys entry key) }
+    {
+        let at = slot(key);
+        self.keys[entry] = key;
+        self.links[entry] = self.heads[at];
+        self.heads[at] = entry as u16;
+    }
 }
 
 // 23 at an item, if it is an Entry. It is kept if no earlier one has its signature.
-fn entry(
-    nodes: &[u8],
-    item: usize,
-    heads: &mut Heads,
-    links: &mut Links,
-    keys: &mut Keys,
-    out: &mut [u16],
-    count: usize,
-) -> usize
-    requires { Chained nodes.now item heads.old links.old keys.old × In nodes.now 0 item × (0 < item) × (count < 2 ^ 60) }
-    ensures adds { Adds (chained (at23 item) nodes.now item heads.old links.old keys.old) 1 out.old out.new count result }
-    ensures chaining { Chaining nodes.now item heads.old heads.new links.old links.new keys.old keys.new }
+fn entry(nodes: &[u8], item: usize, kept: &mut Kept, out: &mut [u16], count: usize) -> usize
+    requires { Chained nodes.now item kept.old × In nodes.now 0 item × (0 < item) × (count < 2 ^ 60) }
+    ensures adds { Adds (chained (at23 item) nodes.now item kept.old) 1 out.old out.new count result }
+    ensures chaining { Chaining nodes.now item kept.old kept.new }
 {
     if nodes::kind(nodes, 0, item) != ENTRY {
         return count;
     }
     let key = entry_key(nodes, item);
-    let first = first_signed(nodes, item, key, heads, links, keys);
+    let first = kept.first_signed(nodes, item, key);
     if first < item {
         return records::emit(
             out,
@@ -252,32 +205,18 @@ fn entry(
             item as u16,
         );
     }
-    enter(item, key, heads, links, keys);
+    kept.enter(item, key);
     count
 }
 
 // 23: the entries in order.
-fn entries(
-    nodes: &[u8],
-    heads: &mut Heads,
-    links: &mut Links,
-    keys: &mut Keys,
-    out: &mut [u16],
-    count: usize,
-) -> usize
-    requires { Chained nodes.now 1 heads.old links.old keys.old × In nodes.now 0 0 × (count < 2 ^ 40) }
-    ensures { Adds (chained group23 nodes.now 1 heads.old links.old keys.old) 2048 out.old out.new count result }
+fn entries(nodes: &[u8], kept: &mut Kept, out: &mut [u16], count: usize) -> usize
+    requires { Chained nodes.now 1 kept.old × In nodes.now 0 0 × (count < 2 ^ 40) }
+    ensures { Adds (chained group23 nodes.now 1 kept.old) 2048 out.old out.new count result }
 {
-    let to = nodes::end(nodes, 0, 0);
     let mut total = count;
-    let mut children = Cursor {
-        base: 0,
-        at: 1,
-        end: to,
-    };
-    while children.at < children.end {
-        total = entry(nodes, children.at, heads, links, keys, out, total);
-        children = children.step(nodes).rest;
+    for item in Children::of(nodes, 0, 0) {
+        total = entry(nodes, item, kept, out, total);
     }
     total
 }
@@ -287,10 +226,12 @@ fn compared(nodes: &[u8], out: &mut [u16], count: usize) -> usize
     requires { View nodes.now 0 × In nodes.now 0 0 × (count < 2 ^ 40) }
     ensures { Adds (λ (W : View nodes.now 0). on group23 (tree_of W)) 2048 out.old out.new count result }
 {
-    let mut heads = [0u16; 4096];
-    let mut links = [0u16; Image::NODES];
-    let mut keys = [0usize; Image::NODES];
-    entries(nodes, &mut heads, &mut links, &mut keys, out, count)
+    let mut kept = Kept {
+        heads: [0u16; 4096],
+        links: [0u16; Image::NODES],
+        keys: [0usize; Image::NODES],
+    };
+    entries(nodes, &mut kept, out, count)
 }
 
 // Whether the item is an Entry whose name an earlier one has; else its name is marked.
@@ -313,17 +254,10 @@ fn repeats(nodes: &[u8], seen: &mut Marks) -> bool
     requires { Seen nodes.now 1 seen.old × In nodes.now 0 0 }
     ensures { (S : Seen nodes.now 1 seen.old) → result ≡ false → group23 (tree_of S.view) ≡ [] }
 {
-    let to = nodes::end(nodes, 0, 0);
-    let mut children = Cursor {
-        base: 0,
-        at: 1,
-        end: to,
-    };
-    while children.at < children.end {
-        if meets(nodes, children.at, seen) {
+    for item in Children::of(nodes, 0, 0) {
+        if meets(nodes, item, seen) {
             return true;
         }
-        children = children.step(nodes).rest;
     }
     false
 }

@@ -9,7 +9,7 @@ ghost use Rattle.nodes.specs.Shown.{View, In, tree_of};
 ghost use Rattle.signature.specs.Wrote.{Wrote, Room};
 ghost use Rattle.signature.specs.Texts.{args_from, params_from, quorum_text, head_text, has_arguments, Texts, Carrying, CountingRoom, Heading, Typing, Arguing, Listing, Signing};
 
-use nodes::{Cursor, TYPE};
+use nodes::{Children, TYPE};
 
 // One byte, where there is room, and the next position.
 fn put(out: &mut [u8], at: usize, b: u8) -> usize
@@ -28,11 +28,9 @@ fn put_all(src: &[u8], out: &mut [u8], at: usize) -> usize
     requires { Room at src.now }
     ensures { Wrote out.old at src.now out.new result }
 {
-    let mut j = 0;
     let mut o = at;
-    while j < src.len() {
-        o = put(out, o, src[j]);
-        j += 1;
+    for &b in src {
+        o = put(out, o, b);
     }
     o
 }
@@ -169,18 +167,10 @@ fn write_args(
     requires { Arguing nodes.now base names.now text.now levels y at }
     ensures { (T : Texts nodes.now base names.now text.now) → Wrote out.old at (args_from levels (tree_of T.view) y (y + 2)) out.new result }
 {
-    let to = nodes::end(nodes, base, y);
     let mut o = at;
-    let mut children = Cursor {
-        base,
-        at: y + 2,
-        end: to,
-    };
-    while children.at < children.end {
-        let step = children.step(nodes);
-        o = put_comma(y + 2, step.child, out, o);
-        o = write_type(nodes, base, names, text, step.child, levels, out, o);
-        children = step.rest;
+    for argument in Children::from(nodes, base, y, y + 2) {
+        o = put_comma(y + 2, argument, out, o);
+        o = write_type(nodes, base, names, text, argument, levels, out, o);
     }
     o
 }
@@ -198,21 +188,13 @@ fn write_params(
     requires { Listing nodes.now base names.now text.now e at }
     ensures { (T : Texts nodes.now base names.now text.now) → Wrote out.old at (params_from (tree_of T.view) e (e + 2)) out.new result }
 {
-    let to = nodes::end(nodes, base, e);
     let mut o = at;
-    let mut children = Cursor {
-        base,
-        at: e + 2,
-        end: to,
-    };
-    while children.at < children.end {
-        let p = children.at;
-        if nodes::kind(nodes, base, p) != 10 {
+    for param in Children::from(nodes, base, e, e + 2) {
+        if nodes::kind(nodes, base, param) != 10 {
             return o;
         }
-        o = put_comma(e + 2, p, out, o);
-        o = write_type(nodes, base, names, text, p + 2, 64, out, o);
-        children = children.step(nodes).rest;
+        o = put_comma(e + 2, param, out, o);
+        o = write_type(nodes, base, names, text, param + 2, 64, out, o);
     }
     o
 }

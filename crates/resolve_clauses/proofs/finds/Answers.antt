@@ -9,10 +9,10 @@ returns-then-kind-rule c = λ T. node-other c.args.rule T.says (tree_of T.view) 
 
 pub returns : goal.returns
 returns c =
-    let is_one : (W : View c.args.nodes.now c.args.base) → (tree_of W).kind c.args.p ≡ c.args.rule.0 = λ W. sym (c.kind.ensures W) ∙ c.if-kind-rule.false in
+    let is_one : (W : View c.args.nodes.now c.args.base) → (tree_of W).kind c.args.p ≡ c.args.rule.kind = λ W. sym (c.kind.ensures W) ∙ c.if-kind-rule.false in
     λ T. node-one c.args.rule T.says (tree_of T.view) _ (is_one T.view) ∙ c.is_hit.ensures T
 
 pub is_hit-requires : goal.is_hit-requires
 is_hit-requires c =
-    let is_one : (W : View c.args.nodes.now c.args.base) → (tree_of W).kind c.args.p ≡ c.args.rule.0 = λ W. sym (c.kind.ensures W) ∙ c.if-kind-rule.false in
+    let is_one : (W : View c.args.nodes.now c.args.base) → (tree_of W).kind c.args.p ≡ c.args.rule.kind = λ W. sym (c.kind.ensures W) ∙ c.if-kind-rule.false in
     record { view = c.requires.0; here = c.requires.2; carries = carried (is_one c.requires.0) c.requires.1 }

@@ -29,7 +29,7 @@ returns c =
     let d = end-bytes W c.args.p (inside W i) in
     let l = signer-after W i (is-param W) in
     h.held _ (omega arith) (omega arith) in
-    asked (λ h. h.seen) c.args.rule.2 _ (held) _
+    asked (λ h. h.seen) c.args.rule.code _ (held) _
     (λ T. let W = T.view in let f = c.end.ensures W in let h = c.if-end-s.false in signer-one _ (tree_of W) _ (is-param W) (c.end-s.ensures W) (omega arith) ∙ c.is_hit.ensures T)
     c.emit_if.ensures
 

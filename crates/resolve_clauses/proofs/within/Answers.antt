@@ -16,7 +16,7 @@ returns c =
     let n = c.args.node in
     let i = c.requires.2 in
     added-by (λ h. record { seen = h.seen; entries = h.entries; held = λ p l g. h.held p (omega arith) (let W = h.seen.view in let e = c.end-end.ensures W in let d = end-bytes W n (inside W i) in omega arith) })
-    (λ h. let T = h.seen in run-below (tree_of T.view) (c.args.rule.0 ∷ []) (at_word c.args.rule T.says (tree_of T.view)) _ _ _ refl (c.end-end.ensures T.view))
+    (λ h. let T = h.seen in run-below (tree_of T.view) (c.args.rule.kind ∷ []) (at_word c.args.rule T.says (tree_of T.view)) _ _ _ refl (c.end-end.ensures T.view))
     c.words.ensures
 
 pub words-requires : goal.words-requires

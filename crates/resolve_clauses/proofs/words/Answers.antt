@@ -7,7 +7,7 @@ use Rattle.records.proofs.Sweep.{sweep-again, sweep-long, sweep-starts, swept}
 use Rattle.resolve_clauses.proofs.words.Goals as goal
 
 pub loop-p-preserved : goal.loop-p-preserved
-loop-p-preserved c = let i = c.loop-p.invariant in (i.0, sweep-again i.1 (asked (λ h. h.seen) c.args.rule.2 _ (λ h. h.held _ i.1.low c.loop-p-test.true) _ c.finds.ensures c.emit_if-total.ensures) c.loop-p-test.true)
+loop-p-preserved c = let i = c.loop-p.invariant in (i.0, sweep-again i.1 (asked (λ h. h.seen) c.args.rule.code _ (λ h. h.held _ i.1.low c.loop-p-test.true) _ c.finds.ensures c.emit_if-total.ensures) c.loop-p-test.true)
 
 pub returns : goal.returns
 returns c = let i = c.loop-p.invariant in swept i.1 c.loop-p-test.false (λ T. refl) (let u = i.0.under in omega arith)

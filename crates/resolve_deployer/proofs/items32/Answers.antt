@@ -1,31 +1,40 @@
 -- `items32` meets its contract: a walk from item to item.
-use borrow.Author.Rules.{rules}
 use native.Mathlib.Omega.{arith}
 use mathlib.Core.Path.{refl}
 use Rattle.rules.specs.Sweep.{has}
-use Rattle.records.proofs.Sweep.{sweep-long}
 use Rattle.nodes.proofs.Shapes.{all_in}
-use Rattle.nodes.proofs.Cursors.{before_last, past-last, still-over, on-to}
-use Rattle.nodes.proofs.Steps.{items-on, below-starts, below-moves, below-done}
+use Rattle.nodes.proofs.Iterated.{begun, at-first, ends-at, turn, ended}
+use Rattle.nodes.proofs.Steps.{items-on, below-starts, below-done}
 use Rattle.rules.specs.Resolve.{group32}
 use Rattle.resolve_deployer.proofs.items32.Goals as goal
 
 pub item32-total-requires : goal.item32-total-requires
-item32-total-requires c = let i = c.loop-children.invariant.1 in let f = i.sweep.few in let u = i.span.under in let h = i.sweep.high in let l = c.requires.2 in (c.requires.0, search rules, i.sweep.low, omega arith)
+item32-total-requires c =
+    let i = c.loop-item.invariant in
+    let t = turn {t = c.next.new.self} i.0 c.in-Some.ensures.steps in
+    let w = i.1 in
+    let f = w.sweep.few in
+    let u = w.span.under in
+    let h = w.sweep.high in
+    let m = w.sweep.low in
+    let l = c.requires.2 in
+    (c.requires.0, t.here, rw (← t.is) at m, omega arith)
 
-pub loop-children-smaller : goal.loop-children-smaller
-loop-children-smaller c = let P = c.requires in let i = c.loop-children.invariant in let m = below-moves 0 P.0 P.1 c.end-to.ensures i.1 (before_last i.0 c.loop-children-test.true) (on-to i.0 c.step.ensures) in omega arith
+pub loop-item-init : goal.loop-item-init
+loop-item-init c =
+    let e = c.into_iter-item-iterator.ensures.into_iter_gives in
+    let b = c.of-item-items.ensures in
+    (begun e b.0, rw (at-first e b.0) (below-starts 0 c.requires.0 c.requires.1 (ends-at 0 e b.1)))
 
-pub loop-children-preserved : goal.loop-children-preserved
+pub loop-item-preserved : goal.loop-item-preserved
 unfolding all_in has
-loop-children-preserved c = let P = c.requires in let i = c.loop-children.invariant in (still-over i.0 c.step.ensures, items-on refl P.0 P.1 c.end-to.ensures i.1 (before_last i.0 c.loop-children-test.true) (on-to i.0 c.step.ensures) c.item32-total.ensures)
+loop-item-preserved c =
+    let P = c.requires in
+    let i = c.loop-item.invariant in
+    let t = turn i.0 c.in-Some.ensures.steps in
+    let d = ends-at 0 c.into_iter-item-iterator.ensures.into_iter_gives c.of-item-items.ensures.1 in
+    (t.still, items-on refl P.0 P.1 d (rw (← t.is) at i.1) t.before t.moved c.item32-total.ensures)
 
 pub returns : goal.returns
 unfolding group32
-returns c = let i = c.loop-children.invariant in below-done 0 i.1 (past-last i.0 c.loop-children-test.false) c.end-to.ensures
-
-pub loop-children-init : goal.loop-children-init
-loop-children-init c = (record { part = refl; last = refl }, below-starts 0 c.requires.0 c.requires.1 c.end-to.ensures)
-
-pub shape_of-out : goal.shape_of-out
-shape_of-out c = sweep-long c.loop-children.invariant.1.sweep c.requires.0
+returns c = let i = c.loop-item.invariant in below-done 0 i.1 (ended i.0 c.in-None.ensures.steps.3) (ends-at 0 c.into_iter-item-iterator.ensures.into_iter_gives c.of-item-items.ensures.1)

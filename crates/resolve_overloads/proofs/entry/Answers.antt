@@ -17,8 +17,8 @@ use Rattle.resolve_overloads.proofs.entry.Goals as goal
 pub returns-then-first-item : goal.returns-then-first-item
 returns-then-first-item c =
     let is_entry : (W : View c.args.nodes.now 0) → (tree_of W).kind c.args.item ≡ 9 = λ W. sym (c.kind.ensures W) ∙ c.if-kind-ne-ENTRY.false in
-    let Given : Type 0 = Chained c.args.nodes.now c.args.item c.args.heads.now c.args.links.now c.args.keys.now in
-    let sought : (C : Given) → Sought c.args.nodes.now c.args.item c.entry_key-key.result c.args.heads.now c.args.links.now c.args.keys.now = λ C. record {
+    let Given : Type 0 = Chained c.args.nodes.now c.args.item c.args.kept.now in
+    let sought : (C : Given) → Sought c.args.nodes.now c.args.item c.entry_key-key.result c.args.kept.now = λ C. record {
       it = record { view = C.view; here = c.requires.1; low = c.requires.2; is = is_entry C.view };
       of_e = c.entry_key-key.ensures C.view;
       chains = C.chains;
@@ -30,8 +30,8 @@ returns-then-first-item c =
 pub returns : goal.returns
 returns c =
     let is_entry : (W : View c.args.nodes.now 0) → (tree_of W).kind c.args.item ≡ 9 = λ W. sym (c.kind.ensures W) ∙ c.if-kind-ne-ENTRY.false in
-    let Given : Type 0 = Chained c.args.nodes.now c.args.item c.args.heads.now c.args.links.now c.args.keys.now in
-    let sought : (C : Given) → Sought c.args.nodes.now c.args.item c.entry_key-key.result c.args.heads.now c.args.links.now c.args.keys.now = λ C. record {
+    let Given : Type 0 = Chained c.args.nodes.now c.args.item c.args.kept.now in
+    let sought : (C : Given) → Sought c.args.nodes.now c.args.item c.entry_key-key.result c.args.kept.now = λ C. record {
       it = record { view = C.view; here = c.requires.1; low = c.requires.2; is = is_entry C.view };
       of_e = c.entry_key-key.ensures C.view;
       chains = C.chains;
@@ -60,8 +60,8 @@ entry_key-key-requires c =
 pub first_signed-first-requires : goal.first_signed-first-requires
 first_signed-first-requires c =
     let is_entry : (W : View c.args.nodes.now 0) → (tree_of W).kind c.args.item ≡ 9 = λ W. sym (c.kind.ensures W) ∙ c.if-kind-ne-ENTRY.false in
-    let Given : Type 0 = Chained c.args.nodes.now c.args.item c.args.heads.now c.args.links.now c.args.keys.now in
-    let sought : (C : Given) → Sought c.args.nodes.now c.args.item c.entry_key-key.result c.args.heads.now c.args.links.now c.args.keys.now = λ C. record {
+    let Given : Type 0 = Chained c.args.nodes.now c.args.item c.args.kept.now in
+    let sought : (C : Given) → Sought c.args.nodes.now c.args.item c.entry_key-key.result c.args.kept.now = λ C. record {
       it = record { view = C.view; here = c.requires.1; low = c.requires.2; is = is_entry C.view };
       of_e = c.entry_key-key.ensures C.view;
       chains = C.chains;

@@ -1,5 +1,5 @@
 -- `same_type` meets its contract: as long, and node by node the same.
-use Prim.Native.Nat.{◌+◌, ◌-◌, ◌≤◌}
+use Prim.Native.Nat.{◌+◌, ◌≤◌}
 use mathlib.Core.Path.{◌≡◌}
 use mathlib.Core.Bool.{true}
 use Rattle.image.specs.Pick.{every}
@@ -9,6 +9,3 @@ use Rattle.resolve_overloads.proofs.same_type.Given as goal
 
 abbrev pub invariant-loop-d : goal.invariant-loop-d
 invariant-loop-d l = (l.d ≤ l.n) × ((W : View l.nodes 0) → every (λ x. same_node (tree_of W) (l.i + x) (l.j + x)) l.d ≡ true)
-
-abbrev pub decreases-loop-d : goal.decreases-loop-d
-decreases-loop-d l = l.n - l.d

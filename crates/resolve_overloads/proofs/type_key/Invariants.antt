@@ -8,6 +8,3 @@ use Rattle.resolve_overloads.proofs.type_key.Given as goal
 
 abbrev pub invariant-loop-p : goal.invariant-loop-p
 invariant-loop-p l = Span l.nodes 0 l.y l.end × (l.y ≤ l.p) × (l.p ≤ l.end) × ((W : View l.nodes 0) → l.k ≡ keyed W.image l.key l.y (l.p - l.y))
-
-abbrev pub decreases-loop-p : goal.decreases-loop-p
-decreases-loop-p l = l.end - l.p

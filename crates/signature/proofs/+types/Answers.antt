@@ -1,122 +1,106 @@
 -- `write_args` meets its contract: a walk from argument to argument; the text that remains is what is left of the arguments.
 -- `write_type` meets its contract: what the type begins with and, where it has arguments, these in brackets.
-use Rattle.std.proofs.Common.{ℕ, ◌+◌, ◌<◌, ◌≤◌, ◌≡◌, List, ◌++◌, Bool, true, refl, sym, ap, ◌∙◌, arith}
+use Rattle.std.proofs.Common.{ℕ, ◌+◌, ◌<◌, ◌≤◌, ◌≡◌, List, ◌++◌, Bool, true, sym, ap, ◌∙◌, arith}
 use Rattle.rules.specs.Resolve.{comma, type_text}
 use Rattle.nodes.specs.Shown.{View, In, tree_of}
-use Rattle.nodes.specs.declared.Cursor.{Cursor}
-use Rattle.nodes.specs.declared.Step.{Step}
-use Rattle.nodes.specs.Cursors.{Stepped}
-use Rattle.nodes.proofs.Cursors.{Over, before_last, past-last, stands, still-over, on-to}
+use Rattle.nodes.specs.declared.walk.Children.{Children}
+use Rattle.nodes.proofs.Iterated.{Turn, begun, at-first, ends-at, turn, ended}
 use Rattle.signature.specs.Texts.{args_from, has_arguments, IsType, Arguing}
 use Rattle.signature.proofs.Laws.{goes_refl, goes-trans, goes-as, goes_end, goes_on, room-comma, room-item, wrote_as, wrote_none, wrote_then, room_as, room-front, room-rest}
 use Rattle.signature.proofs.Types.{ChildAt, args-done, type-none}
 use Rattle.signature.proofs.Reading.{kinds-agree, bracketed, head-only, head-args, args-named, room-head, args-first, arg-in, arg-kind, arg-more, arg-next, arg-past}
 use Rattle.signature.proofs.+types.Goals as goal
 
--- an argument of the type y is at hand: the cursor k walks to the end of that type, and has not come there
-record AtHand (part : List ℕ) (b y to : ℕ) (k : Cursor) : Type 0 where
+-- the argument p of the type y is at hand, where the walk stood at q
+record AtHand (part : List ℕ) (b y q p : ℕ) : Type 0 where
+  is : p ≡ q
   there : In part b y
-  over : Over b to k
-  low : y + 2 ≤ k.at
+  low : y + 2 ≤ p
   named : (W : View part b) → (tree_of W).kind y ≡ 11
-  before : (W : View part b) → k.at < (tree_of W).end y
-  first : (W : View part b) → ChildAt (tree_of W) y k.at
+  before : (W : View part b) → p < (tree_of W).end y
+  first : (W : View part b) → ChildAt (tree_of W) y p
 
-at-hand : {part names text : List ℕ} {b levels y at to : ℕ} {k : Cursor} → Arguing part b names text levels y at → Over b to k → y + 2 ≤ k.at → ((W : View part b) → ChildAt (tree_of W) y k.at) → ((W : View part b) → to ≡ (tree_of W).end y) → k.at < k.end → AtHand part b y to k
-at-hand P o l f e h = record {
+at-hand : {part names text : List ℕ} {b levels y at to p : ℕ} {s t : Children} → Arguing part b names text levels y at → y + 2 ≤ s.at → ((W : View part b) → ChildAt (tree_of W) y s.at) → ((W : View part b) → to ≡ (tree_of W).end y) → Turn part b to s p t → AtHand part b y s.at p
+at-hand P l f e t = let z = t.is in let g = t.before in record {
+  is = z;
   there = P.there;
-  over = o;
-  low = l;
+  low = omega arith;
   named = λ W. kinds-agree W P.texts.view P.there ∙ P.is_named;
-  before = λ W. let d = e W in let g = before_last o h in omega arith;
-  first = f;
+  before = λ W. let d = e W in omega arith;
+  first = rw z f;
 }
 
-module _ {part : List ℕ} {b y to : ℕ} {k : Cursor} (a : AtHand part b y to k) (W : View part b) where
-  place : In part b k.at
+module _ {part : List ℕ} {b y q p : ℕ} (a : AtHand part b y q p) (W : View part b) where
+  place : In part b p
   place = arg-in W a.there (a.named W) a.low (a.before W)
 
-  kind-there : IsType (tree_of W) k.at
+  kind-there : IsType (tree_of W) p
   kind-there = arg-kind W a.there (a.named W) a.low (a.before W) (a.first W)
 
-  -- what remains begins with it, and the step goes past it
-  module _ {r : Step} (s : Stepped part k r) where
-    more : (levels : ℕ) → args_from levels (tree_of W) y k.at ≡ comma (y + 2) r.child ++ (type_text levels (tree_of W) r.child ++ args_from levels (tree_of W) y r.rest.at)
-    more levels = rw s.child (arg-more W a.there (a.named W) a.low (a.before W) (a.first W) (on-to a.over s W) levels)
+  -- what remained begins with it, and the walk goes on past it
+  module _ {next : ℕ} (d : (W : View part b) → next ≡ (tree_of W).end p) where
+    more : (levels : ℕ) → args_from levels (tree_of W) y q ≡ comma (y + 2) p ++ (type_text levels (tree_of W) p ++ args_from levels (tree_of W) y next)
+    more levels = ap (λ (x : ℕ). args_from levels (tree_of W) y x) (sym a.is) ∙ arg-more W a.there (a.named W) a.low (a.before W) (a.first W) (d W) levels
 
-    moved : (k.at < r.rest.at) × (r.rest.at ≤ (tree_of W).end y)
-    moved = arg-past W a.there (a.named W) a.low (a.before W) (a.first W) (on-to a.over s W)
+    moved : (p < next) × (next ≤ (tree_of W).end y)
+    moved = arg-past W a.there (a.named W) a.low (a.before W) (a.first W) (d W)
 
-    next : ChildAt (tree_of W) y r.rest.at
-    next = arg-next W a.there (a.named W) a.low (a.before W) (a.first W) (on-to a.over s W)
+    then-at : ChildAt (tree_of W) y next
+    then-at = arg-next W a.there (a.named W) a.low (a.before W) (a.first W) (d W)
 
-pub write_args-loop-children-init : goal.write_args-loop-children-init
-write_args-loop-children-init t c =
+pub write_args-loop-argument-init : goal.write_args-loop-argument-init
+write_args-loop-argument-init t c =
     let P = c.requires in
+    let e = c.into_iter-argument-iterator.ensures.into_iter_gives in
+    let b = c.from-argument-items.ensures in
+    let s = at-first e b.0 in
+    let d = ends-at c.args.y e b.1 P.texts.view in
     let f = (args-first P.texts.view P.there P.is_named).1 in
-    let e = c.end-to.ensures P.texts.view in
-    (record { part = refl; last = refl }, omega arith, omega arith, (λ W. (args-first W P.there (kinds-agree W P.texts.view P.there ∙ P.is_named)).0), λ T. goes_refl)
-
-pub write_args-step-step-requires : goal.write_args-step-step-requires
-write_args-step-step-requires t c =
-    let i = c.loop-children.invariant in
-    stands i.0 c.args.nodes.now (place (at-hand c.requires i.0 i.1 i.3 c.end-to.ensures c.loop-children-test.true) c.requires.texts.view)
+    (begun e b.0, omega arith, omega arith, rw s (λ W. (args-first W P.there (kinds-agree W P.texts.view P.there ∙ P.is_named)).0), λ T. rw s goes_refl)
 
 pub write_args-put_comma-o-requires : goal.write_args-put_comma-o-requires
 write_args-put_comma-o-requires t c =
     let P = c.requires in
+    let i = c.loop-argument.invariant in
+    let d = ends-at c.args.y c.into_iter-argument-iterator.ensures.into_iter_gives c.from-argument-items.ensures.1 in
+    let n = turn {t = c.next.new.self} i.0 c.in-Some.ensures.steps in
+    let x = c.in-Some.argument in
     let tree = tree_of P.texts.view in
-    let i = c.loop-children.invariant in
-    let x = c.step-step.result in
-    room-comma (i.4 P.texts) (comma (c.args.y + 2) x.child) (type_text c.args.levels tree x.child) (args_from c.args.levels tree c.args.y x.rest.at)
-    (more (at-hand P i.0 i.1 i.3 c.end-to.ensures c.loop-children-test.true) P.texts.view c.step-step.ensures c.args.levels) P.room
+    room-comma (i.4 P.texts) (comma (c.args.y + 2) x) (type_text c.args.levels tree x) (args_from c.args.levels tree c.args.y c.next.new.self.at) (more (at-hand P i.1 i.3 d n) P.texts.view n.moved c.args.levels) P.room
 
 pub write_args-write_type-o-requires : goal.write_args-write_type-o-requires
 write_args-write_type-o-requires t c =
     let P = c.requires in
     let W = P.texts.view in
-    let i = c.loop-children.invariant in
-    let a = at-hand P i.0 i.1 i.3 c.end-to.ensures c.loop-children-test.true in
-    let s = c.step-step.ensures in (
-      omega arith,
-      record {
-        texts = P.texts;
-        there = rw s.child (place a W);
-        is_type = rw s.child (kind-there a W);
-        room = room-item (i.4 P.texts) _ _ _ (more a W s c.args.levels) P.room c.put_comma-o.ensures;
-      },
-    )
+    let i = c.loop-argument.invariant in
+    let d = ends-at c.args.y c.into_iter-argument-iterator.ensures.into_iter_gives c.from-argument-items.ensures.1 in
+    let n = turn {t = c.next.new.self} i.0 c.in-Some.ensures.steps in
+    let a = at-hand P i.1 i.3 d n in
+    (omega arith, record { texts = P.texts; there = n.here; is_type = kind-there a W; room = room-item (i.4 P.texts) _ _ _ (more a W n.moved c.args.levels) P.room c.put_comma-o.ensures })
 
-pub write_args-loop-children-smaller : goal.write_args-loop-children-smaller
-write_args-loop-children-smaller t c =
+pub write_args-loop-argument-preserved : goal.write_args-loop-argument-preserved
+write_args-loop-argument-preserved t c =
     let P = c.requires in
-    let i = c.loop-children.invariant in
-    let m = moved (at-hand P i.0 i.1 i.3 c.end-to.ensures c.loop-children-test.true) P.texts.view c.step-step.ensures in
-    let e = c.end-to.ensures P.texts.view in
-    omega arith
-
-pub write_args-loop-children-preserved : goal.write_args-loop-children-preserved
-write_args-loop-children-preserved t c =
-    let P = c.requires in
-    let i = c.loop-children.invariant in
-    let low = i.1 in
-    let a = at-hand P i.0 low i.3 c.end-to.ensures c.loop-children-test.true in
-    let s = c.step-step.ensures in
-    let m = moved a P.texts.view s in
-    let e = c.end-to.ensures P.texts.view in (
-      still-over i.0 s,
+    let i = c.loop-argument.invariant in
+    let d = ends-at c.args.y c.into_iter-argument-iterator.ensures.into_iter_gives c.from-argument-items.ensures.1 in
+    let n = turn {t = c.next.new.self} i.0 c.in-Some.ensures.steps in
+    let a = at-hand P i.1 i.3 d n in
+    let low = a.low in
+    let m = moved a P.texts.view n.moved in
+    let e = d P.texts.view in (
+      n.still,
       omega arith,
       omega arith,
-      (λ W. next a W s),
-      λ T. goes_on (i.4 T) _ _ _ (more a T.view s c.args.levels) c.put_comma-o.ensures (c.write_type-o.ensures T),
+      (λ W. then-at a W n.moved),
+      λ T. goes_on (i.4 T) _ _ _ (more a T.view n.moved c.args.levels) c.put_comma-o.ensures (c.write_type-o.ensures T),
     )
 
 pub write_args-returns : goal.write_args-returns
 write_args-returns t c = λ T.
-    let i = c.loop-children.invariant in
-    let e = c.end-to.ensures T.view in
-    let g = past-last i.0 c.loop-children-test.false in
-    goes_end (goes-trans (i.4 T) (goes-as (args-done (tree_of T.view) _ _ c.loop-children.children.at (omega arith))))
+    let i = c.loop-argument.invariant in
+    let e = ends-at c.args.y c.into_iter-argument-iterator.ensures.into_iter_gives c.from-argument-items.ensures.1 T.view in
+    let g = ended i.0 c.in-None.ensures.steps.3 in
+    goes_end (goes-trans (i.4 T) (goes-as (args-done (tree_of T.view) _ _ c.loop-argument.argument-iterator.at (omega arith))))
 
 pub write_type-returns-then-levels-eq0 : goal.write_type-returns-then-levels-eq0
 write_type-returns-then-levels-eq0 t c = λ T.
