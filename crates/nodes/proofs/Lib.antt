@@ -13,6 +13,7 @@ pub mod Flat
 pub mod ChildrenOf
 pub mod Chains
 pub mod Iterated
+pub mod Onward
 pub mod Walks
 pub mod Walking
 pub mod Naming

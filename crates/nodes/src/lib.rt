@@ -16,7 +16,7 @@ ghost use Rattle.nodes.specs.Cursors.{Stepped};
 mod walk;
 
 use image::Image;
-pub use walk::Children;
+pub use walk::{Children, Declarations};
 
 // One mark for each of 1,024 names, by name number less one.
 pub type Marks = [bool; Image::NAMES];

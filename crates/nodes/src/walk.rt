@@ -4,6 +4,7 @@ ghost use Rattle.std.specs.Iterator.{at_most};
 ghost use Rattle.nodes.specs.Chain.{Chain, Ended, Stepped, Begun};
 ghost use Rattle.nodes.specs.Shown.{View, In, tree_of};
 ghost use Rattle.nodes.specs.First.{Head, Until};
+ghost use Rattle.nodes.specs.Passed.{Passed};
 
 // The children that stand from `at` up to `to`, in a part of the node area whose first node is number `base`.
 #[derive(Drop)]
@@ -87,5 +88,43 @@ impl<'a> Children<'a> {
             at: base,
             to: base + nodes.len() / 16,
         }
+    }
+}
+
+// The items and the fields of a contract, one after another, from `at` up to `to`: into a State, past any other node.
+#[derive(Drop)]
+pub struct Declarations<'a> {
+    pub nodes: &'a [u8],
+    pub at: usize,
+    pub to: usize,
+    pub ghost shown: { ∥ View nodes.now 0 ∥₁ },
+    pub ghost chain: { Chain nodes.now 0 at to },
+}
+
+impl<'a> Iterator for Declarations<'a> {
+    type Item = usize;
+
+    ghost next_gives = { λ s r t. (t.nodes.now ≡ s.nodes.now) × (t.to ≡ s.to) × MatchOption r (Ended s.at s.to) (λ node. Passed s.nodes.now s.at s.to node t.at) };
+
+    ghost remaining = { λ s. at_most (s.to - s.at) };
+
+    fn next(&mut self) -> Option<usize> {
+        if self.to <= self.at {
+            return None;
+        }
+        let node = self.at;
+        self.at = crate::next_declaration(self.nodes, 0, node);
+        Some(node)
+    }
+}
+
+impl<'a> Declarations<'a> {
+    // All of the contract.
+    pub fn of(nodes: &'a [u8]) -> Declarations<'a>
+        requires { View nodes.now 0 × In nodes.now 0 0 }
+        ensures { Begun nodes.now 0 1 result.nodes.now 0 result.at × ((W : View nodes.now 0) → result.to ≡ (tree_of W).end 0) }
+    {
+        let to = crate::end(nodes, 0, 0);
+        Declarations { nodes, at: 1, to }
     }
 }
