@@ -1,6 +1,6 @@
 -- A loop over children: the iterator stays in its part and keeps its end, and each turn goes on to the end of the child.
 use Prim.Native.Nat.{ℕ, ◌<◌, ◌≤◌}
-use mathlib.Core.Path.{◌≡◌, refl, ◌∙◌, sym}
+use mathlib.Core.Path.{◌≡◌, refl, ◌∙◌}
 use mathlib.Core.List.{List}
 use native.Mathlib.Omega.{arith}
 use Rattle.nodes.specs.Shown.{View, In, tree_of}
@@ -25,6 +25,10 @@ pub record Turn (part : List ℕ) (b to : ℕ) (s : Children) (child : ℕ) (t :
 module _ {part : List ℕ} {b from : ℕ} {s s' : Children} (e : s' ≡ s) (g : Begun part b from s.nodes.now s.base s.at) where
   pub begun : Over part b s'.to s'
   begun = rw e (record { nodes = g.nodes; base = g.base; last = refl })
+
+  -- one whose end is known at once, as that of an entry's head
+  pub begun-to : {to : ℕ} → s.to ≡ to → Over part b to s'
+  begun-to d = record { nodes = begun.nodes; base = begun.base; last = rw e d }
 
   pub at-first : s'.at ≡ from
   at-first = rw e g.first
