@@ -18,7 +18,7 @@ ghost use Rattle.names.specs.Spelled.{BuiltinsOf, MethodsOf};
 ghost use Rattle.resolve_calls.specs.Called.{is_builtin, is_method, param_at, param_typed, AddressTyping, CallWords, Calling, at34, at40, known, called, swept34, swept40, TypesField, TurnsTyped};
 
 use names::{Builtins, Methods};
-use nodes::{CALL, CALLER, Cursor, FIELD_DECL, IDENT, Marks, PARAM, Past};
+use nodes::{CALL, CALLER, Children, Declarations, FIELD_DECL, IDENT, Marks, PARAM, Past};
 
 // 34 at a node of an item's statements: a Call of neither a word that may be called nor a method.
 fn rule34(nodes: &[u8], base: usize, p: usize, builtin: &Marks, method: &Marks) -> bool
@@ -49,8 +49,7 @@ pub fn calls34(
 {
     let end = base + nodes.len() / 16;
     let mut total = count;
-    let mut p = base;
-    while p < end {
+    for p in base..end {
         total = records::emit_if(
             rule34(nodes, base, p, builtin, method),
             out,
@@ -59,7 +58,6 @@ pub fn calls34(
             p,
             entry,
         );
-        p += 1;
     }
     total
 }
@@ -111,8 +109,7 @@ pub fn calls40(
 {
     let end = base + nodes.len() / 16;
     let mut total = count;
-    let mut p = base;
-    while p < end {
+    for p in base..end {
         total = records::emit_if(
             rule40(nodes, base, p, fields, params),
             out,
@@ -121,7 +118,6 @@ pub fn calls40(
             p,
             entry,
         );
-        p += 1;
     }
     total
 }
@@ -139,15 +135,13 @@ pub fn is_clean(
     ensures { result ≡ true → ((T : Calling nodes.now base fields.now params.now) → (swept40 nodes.now base fields.now params.now T).list ≡ []) × ((T : CallWords nodes.now base builtin.now method.now) → (swept34 nodes.now base builtin.now method.now T).list ≡ []) }
 {
     let end = base + nodes.len() / 16;
-    let mut p = base;
-    while p < end {
+    for p in base..end {
         if rule34(nodes, base, p, builtin, method) {
             return false;
         }
         if rule40(nodes, base, p, fields, params) {
             return false;
         }
-        p += 1;
     }
     true
 }
@@ -198,11 +192,8 @@ pub fn mark_fields(nodes: &[u8], address: usize, fields: &mut Marks)
     if address < 1 {
         return;
     }
-    let end = nodes::end(nodes, 0, 0);
-    let mut p = 1;
-    while p < end {
+    for p in Declarations::of(nodes) {
         mark_field(nodes, p, address, fields);
-        p = nodes::next_declaration(nodes, 0, p);
     }
 }
 
@@ -234,13 +225,7 @@ pub fn mark_params(
     if address < 1 {
         return;
     }
-    let mut children = Cursor {
-        base: 0,
-        at: entry + 1,
-        end: to,
-    };
-    while children.at < children.end {
-        mark_param(nodes, children.at, address, on, params);
-        children = children.step(nodes).rest;
+    for part in Children::heads(nodes, entry, to) {
+        mark_param(nodes, part, address, on, params);
     }
 }

@@ -17,7 +17,7 @@ use Rattle.rules.specs.Tree.{event_param}
 use Rattle.rules.specs.Vocabulary.{alone, below}
 use Rattle.records.proofs.Sweep.{run-later, keep-none, keep_one, has_one, has-not}
 use Rattle.nodes.specs.Shown.{View, In, tree_of}
-use Rattle.nodes.proofs.Parts.{inside, formed, past}
+use Rattle.nodes.proofs.Parts.{formed, past}
 use Rattle.resolve_emits.proofs.Counting.{those, at-node, leaf_first}
 
 run-all : (b : ℕ → Bool) (a n : ℕ) → ((j : ℕ) → a ≤ j → j < a + n → b j ≡ true) → length (run (those b) a n) ≡ n

@@ -10,23 +10,16 @@ ghost use Rattle.nodes.specs.Shown.{View, In, tree_of};
 ghost use Rattle.nodes.specs.Entries.{in_part};
 ghost use Rattle.resolve_emits.specs.Emitted.{IsKind, EventNotes, Emitted, at30, emitting, emitted};
 
-use nodes::{Cursor, EMIT};
+use nodes::{Children, EMIT};
 use places::Places;
 
-// The number of arguments of an Emit: a cursor over its children after the Name, moved past one child at each step.
+// The number of arguments of an Emit: its children after the Name.
 fn arguments(area: &[u8], emit: usize) -> usize
     requires { View area.now 0 × IsKind area.now 0 emit 26 }
     ensures { (W : View area.now 0) → result ≡ length (arguments (tree_of W) emit alone) }
 {
-    let end = nodes::end(area, 0, emit);
     let mut number = 0;
-    let mut children = Cursor {
-        base: 0,
-        at: emit + 2,
-        end,
-    };
-    while children.at < children.end {
-        children = children.step(area).rest;
+    for _argument in Children::from(area, 0, emit, emit + 2) {
         number += 1;
     }
     number

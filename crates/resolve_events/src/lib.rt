@@ -16,7 +16,7 @@ ghost use Rattle.resolve_events.specs.Events.{Bodied, Events, item30, swept30, e
 
 use image::Image;
 use items::Items;
-use nodes::{Cursor, ENTRY, EVENT, GENESIS};
+use nodes::{Children, ENTRY, EVENT, GENESIS};
 use places::{Note, Places};
 
 // 30 and 31 in an item's statements, each from the end of the one before it; they stand in this entry (0: in none), and are lent as their own part of the node area, which starts with number `base`.
@@ -32,16 +32,9 @@ fn statements(
     requires { Emitted nodes.now base area.now last.now × (count < 2 ^ 50) × (entry < 2048) }
     ensures { Adds (in_part entry nodes.now base (swept30 nodes.now base area.now last.now)) 4096 out.old out.new count result }
 {
-    let end = base + nodes.len() / 16;
     let mut total = count;
-    let mut children = Cursor {
-        base,
-        at: base,
-        end,
-    };
-    while children.at < children.end {
-        total = resolve_emits::emit(nodes, base, entry, children.at, area, last, out, total);
-        children = children.step(nodes).rest;
+    for s in Children::all(nodes, base) {
+        total = resolve_emits::emit(nodes, base, entry, s, area, last, out, total);
     }
     total
 }
@@ -72,16 +65,9 @@ fn emits(kind: usize, nodes: &[u8], last: &Places, out: &mut [u16], count: usize
     requires { Events nodes.now last.now × Bodied kind × (count < 2 ^ 45) }
     ensures { Adds (events (λ t. emits t (kind ∷ [])) nodes.now last.now) (4096 * 2048) out.old out.new count result }
 {
-    let end = nodes::end(nodes, 0, 0);
     let mut total = count;
-    let mut children = Cursor {
-        base: 0,
-        at: 1,
-        end,
-    };
-    while children.at < children.end {
-        total = item(kind, nodes, children.at, last, out, total);
-        children = children.step(nodes).rest;
+    for node in Children::of(nodes, 0, 0) {
+        total = item(kind, nodes, node, last, out, total);
     }
     total
 }

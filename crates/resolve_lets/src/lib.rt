@@ -9,7 +9,7 @@ ghost use Rattle.nodes.specs.First.{Head};
 ghost use Rattle.resolve_names.specs.Seen.{Among, seen_among};
 ghost use Rattle.resolve_lets.specs.Scope.{Lets, NamingBody, at26, at27, at29, idents26, seen_lets, seen_body, swept26, NoLet, Scope, scoped, CleansLets};
 
-use nodes::{Cursor, IDENT, LET, Marks};
+use nodes::{Children, IDENT, LET, Marks};
 use places::{Note, Places};
 
 // 26 at a node of the statement s: an Ident naming a Let of this body with no such Let in an earlier statement.
@@ -38,10 +38,8 @@ fn idents(
 {
     let end = nodes::end(nodes, base, s);
     let mut total = count;
-    let mut p = s + 1;
-    while p < end {
+    for p in s + 1..end {
         total = records::emit_if(rule26(nodes, base, s, p, lets), out, total, 26, p, entry);
-        p += 1;
     }
     total
 }
@@ -105,18 +103,10 @@ fn statements(
     requires { NamingBody nodes.now base state.now params.now lets.now × (count < 2 ^ 48) × (entry < 2048) }
     ensures { Adds (in_part entry nodes.now base (swept26 nodes.now base state.now params.now lets.now)) (2051 * 2048) out.old out.new count result }
 {
-    let end = base + nodes.len() / 16;
     let mut total = count;
-    let mut children = Cursor {
-        base,
-        at: base,
-        end,
-    };
-    while children.at < children.end {
-        let s = children.at;
+    for s in Children::all(nodes, base) {
         total = idents(nodes, base, entry, s, lets, out, total);
         total = let_names(nodes, base, entry, s, state, params, lets, out, total);
-        children = children.step(nodes).rest;
     }
     total
 }
@@ -126,17 +116,10 @@ fn has_let(nodes: &[u8], entry: usize, first: usize) -> bool
     requires { Head nodes.now 0 entry first }
     ensures { result ≡ false → (W : View nodes.now 0) → NoLet (tree_of W) entry }
 {
-    let end = nodes::end(nodes, 0, entry);
-    let mut children = Cursor {
-        base: 0,
-        at: first,
-        end,
-    };
-    while children.at < children.end {
-        if nodes::kind(nodes, 0, children.at) == LET {
+    for s in Children::from(nodes, 0, entry, first) {
+        if nodes::kind(nodes, 0, s) == LET {
             return true;
         }
-        children = children.step(nodes).rest;
     }
     false
 }

@@ -8,7 +8,7 @@ ghost use Rattle.nodes.specs.Shown.{View, In, tree_of};
 ghost use Rattle.nodes.specs.Entries.{in_part};
 ghost use Rattle.resolve_mints.specs.Minted.{Minting, at22, item22, minted, swept22};
 
-use nodes::{ASSET, CALL, Children, IDENT};
+use nodes::{ASSET, CALL, Children, Declarations, IDENT};
 
 // 22 at a node of an item's statements: a Call of Ident `mint_asset`, which has the number `mint`.
 fn rule22(nodes: &[u8], base: usize, p: usize, mint: usize) -> bool
@@ -76,17 +76,13 @@ fn many_assets(nodes: &[u8]) -> bool
     requires { View nodes.now 0 × In nodes.now 0 0 }
     ensures { (W : View nodes.now 0) → result ≡ many_assets (tree_of W) }
 {
-    let end = nodes::end(nodes, 0, 0);
-    let mut asset = 0;
-    let mut next = 1;
-    while next < end {
-        let p = next;
-        next = nodes::next_declaration(nodes, 0, p);
+    let mut met = false;
+    for p in Declarations::of(nodes) {
         if nodes::kind(nodes, 0, p) == ASSET {
-            if 0 < asset {
+            if met {
                 return true;
             }
-            asset = p;
+            met = true;
         }
     }
     false

@@ -13,11 +13,18 @@ ghost use Rattle.nodes.specs.Items.{NoItem};
 ghost use Rattle.resolve_names.specs.Seen.{Among, met_rule, at_met, at_state, seen_among};
 
 use image::Image;
-use nodes::{EVENT, FIELD_DECL, Marks};
+use nodes::{Declarations, EVENT, FIELD_DECL, Marks};
 use places::{Note, Places};
 
 // 20, 21, 25 and 27 at a node, if it is of this kind: its name is met before. Related: the first of that name, or with `name` 1 its Name.
-pub fn met(kind: usize, nodes: &[u8], base: usize, p: usize, firsts: &Places, name: usize) -> Option<u16>
+pub fn met(
+    kind: usize,
+    nodes: &[u8],
+    base: usize,
+    p: usize,
+    firsts: &Places,
+    name: usize,
+) -> Option<u16>
     requires { NameFirst kind × Among nodes.now base kind p firsts.now × In nodes.now base p × (name ≤ 1) }
     ensures { (code : ℕ) → AsksAt (seen_among (at_met code (kind ∷ []) name p) nodes.now base kind p firsts.now) code (p + name) result }
 {
@@ -38,10 +45,8 @@ fn repeated(kind: usize, code: u16, nodes: &[u8], out: &mut [u16], count: usize)
 {
     let mut firsts = [0u16; Image::NAMES];
     places::note_names(Note::First, kind, nodes, &mut firsts);
-    let end = nodes::end(nodes, 0, 0);
     let mut total = count;
-    let mut p = 1;
-    while p < end {
+    for p in Declarations::of(nodes) {
         total = records::emit_hit(
             met(kind, nodes, 0, p, &firsts, 1),
             out,
@@ -50,7 +55,6 @@ fn repeated(kind: usize, code: u16, nodes: &[u8], out: &mut [u16], count: usize)
             p + 1,
             0,
         );
-        p = nodes::next_declaration(nodes, 0, p);
     }
     total
 }

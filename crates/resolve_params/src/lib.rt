@@ -11,7 +11,7 @@ ghost use Rattle.resolve_lets.specs.Scope.{Params};
 ghost use Rattle.resolve_params.specs.Entries.{NameTables, parameter_rules, item24, seen_names, CleansNoted};
 
 use image::Image;
-use nodes::{Cursor, ENTRY, Marks, PARAM};
+use nodes::{Children, ENTRY, Marks, PARAM};
 use places::{Note, Places};
 
 // 24 and 25: the parameters of an entry, whose first statement is `to`, in order.
@@ -28,30 +28,23 @@ fn parameters(
     ensures { Adds (λ (T : Params nodes.now entry state.now params.now). on (λ t. parameter_rules t entry) (tree_of T.named.view)) (2 * 2048) out.old out.new count result }
 {
     let mut total = count;
-    let mut children = Cursor {
-        base: 0,
-        at: entry + 1,
-        end: to,
-    };
-    while children.at < children.end {
-        let p = children.at;
+    for part in Children::heads(nodes, entry, to) {
         total = records::emit_if(
-            resolve_names::is_state(PARAM, nodes, 0, p, state),
+            resolve_names::is_state(PARAM, nodes, 0, part, state),
             out,
             total,
             24,
-            p + 1,
+            part + 1,
             entry,
         );
         total = records::emit_hit(
-            resolve_names::met(PARAM, nodes, 0, p, params, 1),
+            resolve_names::met(PARAM, nodes, 0, part, params, 1),
             out,
             total,
             25,
-            p + 1,
+            part + 1,
             entry,
         );
-        children = children.step(nodes).rest;
     }
     total
 }
@@ -88,24 +81,9 @@ pub fn group24(nodes: &[u8], state: &Marks, out: &mut [u16], count: usize) -> us
 {
     let mut params = [0u16; Image::NAMES];
     let mut lets = [0u16; Image::NAMES];
-    let end = nodes::end(nodes, 0, 0);
     let mut total = count;
-    let mut children = Cursor {
-        base: 0,
-        at: 1,
-        end,
-    };
-    while children.at < children.end {
-        total = entry(
-            nodes,
-            children.at,
-            state,
-            &mut params,
-            &mut lets,
-            out,
-            total,
-        );
-        children = children.step(nodes).rest;
+    for item in Children::of(nodes, 0, 0) {
+        total = entry(nodes, item, state, &mut params, &mut lets, out, total);
     }
     total
 }

@@ -39,7 +39,7 @@ returns-in_default c =
     λ T.
     let W = T.view in
     let k = c.kind.ensures W in
-    sym (ends-other (tree_of W) T.entry _ _ (c.down-bottom.ensures.1 W) (before-end W) (λ e. c.in_default.in_default-own.rest.0.1 (k ∙ e)) (λ e. c.in_default.in_default-own.rest.1 (k ∙ e)))
+    sym (ends-other (tree_of W) T.entry _ _ (c.down-bottom.ensures.1 W) (before-end W) (λ e. let f = k ∙ e in omega arith) (λ e. let f = k ∙ e in omega arith))
 
 pub kind-requires : goal.kind-requires
 kind-requires c =

@@ -13,6 +13,3 @@ invariant-loop-p l =
     Span l.nodes l.base l.base l.end × (l.base ≤ l.p) × (l.p ≤ l.end)
     × ((T : Calling l.nodes l.base l.fields l.params) → run (λ i. at40 i (tree_of T.view) T.entry) l.base (l.p - l.base) ≡ [])
     × ((T : CallWords l.nodes l.base l.builtin l.method) → run (λ i. at34 i (tree_of T.view)) l.base (l.p - l.base) ≡ [])
-
-abbrev pub decreases-loop-p : goal.decreases-loop-p
-decreases-loop-p l = l.end - l.p

@@ -6,35 +6,32 @@ use Rattle.nodes.specs.Marks.{marking}
 use Rattle.nodes.proofs.Names.{marks-as}
 use Rattle.nodes.proofs.Marking.{marking-none}
 use Rattle.nodes.proofs.Walking.{marks-done}
-use Rattle.nodes.proofs.Until.{one_end, until-starts, until-moves, until-walks, until-done}
+use Rattle.nodes.proofs.Until.{one_end, until-starts, until-walks, until-done}
 use Rattle.nodes.proofs.Head.{until-head}
-use Rattle.nodes.proofs.Cursors.{before_last, past-last, still-over, on-to}
+use Rattle.nodes.proofs.Iterated.{begun-to, at-first, turn, ended}
 use Rattle.resolve_calls.proofs.Types.{no-param}
 use Rattle.resolve_calls.proofs.mark_params.Goals as goal
 
 pub returns-then-address-lt1 : goal.returns-then-address-lt1
 returns-then-address-lt1 c = λ T P M. marks-as (λ w. sym (ap (marking c.args.on (P w)) (no-param T c.if-address-lt1.true c.requires.1.here w) ∙ marking-none c.args.on (P w))) M
 
-pub loop-children-init : goal.loop-children-init
+pub loop-part-init : goal.loop-part-init
 unfolding has
-loop-children-init c = (record { part = refl; last = refl }, until-starts (until-head c.requires.1 10 refl) (λ v i. marking-none _ v))
+loop-part-init c =
+    let e = c.into_iter-part-iterator.ensures.into_iter_gives in
+    let b = c.heads-part-items.ensures in
+    (begun-to e b.0 b.1, rw (at-first e b.0) (until-starts (until-head c.requires.1 10 refl) (λ v i. marking-none _ v)))
 
-pub loop-children-smaller : goal.loop-children-smaller
+pub loop-part-preserved : goal.loop-part-preserved
 unfolding has
-loop-children-smaller c =
-    let i = c.loop-children.invariant in
-    let m = until-moves (until-head c.requires.1 10 refl) i.1 (before_last i.0 c.loop-children-test.true) (on-to i.0 c.step.ensures) in
-    omega arith
-
-pub loop-children-preserved : goal.loop-children-preserved
-unfolding has
-loop-children-preserved c =
-    let i = c.loop-children.invariant in
-    (still-over i.0 c.step.ensures, until-walks (until-head c.requires.1 10 refl) i.1 refl (before_last i.0 c.loop-children-test.true) (on-to i.0 c.step.ensures) c.mark_param.ensures)
+loop-part-preserved c =
+    let i = c.loop-part.invariant in
+    let t = turn i.0 c.in-Some.ensures.steps in
+    (t.still, until-walks (until-head c.requires.1 10 refl) (rw (← t.is) at i.1) refl t.before t.moved c.mark_param.ensures)
 
 pub returns : goal.returns
 unfolding has
 returns c =
-    let i = c.loop-children.invariant in
+    let i = c.loop-part.invariant in
     let N = until-head c.requires.1 10 refl in
-    marks-done (one_end N) (until-done N i.1 (past-last i.0 c.loop-children-test.false)) (omega arith)
+    marks-done (one_end N) (until-done N i.1 (ended i.0 c.in-None.ensures.steps.3)) (omega arith)

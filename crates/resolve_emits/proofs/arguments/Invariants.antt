@@ -1,12 +1,10 @@
--- `arguments` meets its contract: the cursor stands at one child of the Emit after another, and counts them.
-use Prim.Native.Nat.{◌-◌}
+-- `arguments` meets its contract: one child of the Emit after another is counted.
 use Rattle.nodes.proofs.Spans.{Span}
-use Rattle.nodes.proofs.Cursors.{Over}
+use Rattle.nodes.proofs.Iterated.{Over}
 use Rattle.resolve_emits.proofs.Counting.{Counting}
 use Rattle.resolve_emits.proofs.arguments.Given as goal
 
-abbrev pub invariant-loop-children : goal.invariant-loop-children
-invariant-loop-children l = Over 0 l.end l.children × Span l.area 0 l.emit l.end × Counting l.area 0 l.emit l.end l.number l.children.at
-
-abbrev pub decreases-loop-children : goal.decreases-loop-children
-decreases-loop-children l = l.end - l.children.at
+abbrev pub invariant-loop-argument : goal.invariant-loop-argument
+invariant-loop-argument l =
+    let s = l.initial._argument-iterator in
+    Over l.area 0 s.to l._argument-iterator × Span l.area 0 l.emit s.to × Counting l.area 0 l.emit s.to l.number l._argument-iterator.at

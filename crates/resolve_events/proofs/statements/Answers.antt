@@ -1,45 +1,27 @@
 -- `statements` meets its contract: a walk from statement to statement, since an Emit is one; they all stand in the entry that is told.
-use borrow.Author.Rules.{rules}
-use native.Mathlib.Omega.{arith}
-use mathlib.Core.Path.{refl}
+use mathlib.Core.Path.{refl, sym, ◌∙◌}
 use Rattle.rules.specs.Sweep.{has}
 use Rattle.records.proofs.Laws.{held_all}
-use Rattle.records.proofs.Sweep.{sweep-long}
-use Rattle.nodes.specs.Shown.{In}
 use Rattle.nodes.proofs.Shapes.{all_in}
-use Rattle.nodes.proofs.Spans.{span-whole, upto_is}
-use Rattle.nodes.proofs.Steps.{steps-start, step-at, steps_on, steps-done}
-use Rattle.nodes.proofs.Cursors.{before_last, past-last, stands, still-over, on-to}
+use Rattle.nodes.proofs.Spans.{upto_is}
+use Rattle.nodes.proofs.Iterated.{begun-to, at-first, turn, ended}
+use Rattle.nodes.proofs.Steps.{steps-start, steps_on, steps-done}
 use Rattle.resolve_events.proofs.statements.Goals as goal
 
-pub step-requires : goal.step-requires
-step-requires c =
-    let here : In c.args.nodes.now c.args.base c.loop-children.children.at = search rules in
-    stands c.loop-children.invariant.0 c.args.nodes.now (here)
+pub loop-s-init : goal.loop-s-init
+loop-s-init c =
+    let h = held_all _ c.requires.0 in
+    let W = c.requires.0.body.view in
+    let e = c.into_iter-s-iterator.ensures.into_iter_gives in
+    let b = c.all-s-items.ensures in
+    (begun-to e b.0 (b.1 W ∙ sym (upto_is W)), rw (at-first e b.0) (steps-start h))
 
-pub loop-children-smaller : goal.loop-children-smaller
-loop-children-smaller c =
-    let here : In c.args.nodes.now c.args.base c.loop-children.children.at = search rules in
-    let i = c.loop-children.invariant in
-    let n = (step-at i.1 (here) (on-to i.0 c.step.ensures) (held_all _ c.requires.0)).past in
-    let h = before_last i.0 c.loop-children-test.true in
-    omega arith
-
-pub loop-children-preserved : goal.loop-children-preserved
+pub loop-s-preserved : goal.loop-s-preserved
 unfolding all_in has
-loop-children-preserved c =
-    let here : In c.args.nodes.now c.args.base c.loop-children.children.at = search rules in
-    let i = c.loop-children.invariant in
-    (still-over i.0 c.step.ensures, steps_on refl (held_all _ c.requires.0) i.1 (here) (on-to i.0 c.step.ensures) c.emit-total.ensures)
-
-pub overflow_add-end : goal.overflow_add-end
-overflow_add-end c = let W = c.requires.0.body.view in let u = (span-whole W (upto_is W)).under in omega arith
-
-pub loop-children-init : goal.loop-children-init
-loop-children-init c = (record { part = refl; last = refl }, steps-start (held_all _ c.requires.0))
-
-pub shape_of-out : goal.shape_of-out
-shape_of-out c = sweep-long c.loop-children.invariant.1.walk.sweep (held_all _ c.requires.0)
+loop-s-preserved c =
+    let i = c.loop-s.invariant in
+    let t = turn i.0 c.in-Some.ensures.steps in
+    (t.still, steps_on refl (held_all _ c.requires.0) (rw (← t.is) at i.1) t.here t.moved c.emit-total.ensures)
 
 pub returns : goal.returns
-returns c = let i = c.loop-children.invariant in steps-done i.1 (past-last i.0 c.loop-children-test.false)
+returns c = let i = c.loop-s.invariant in steps-done i.1 (ended i.0 c.in-None.ensures.steps.3)

@@ -1,70 +1,56 @@
 -- `statements` meets its contract: a walk from statement to statement, in each one a sweep over its Idents.
-use borrow.Author.Rules.{rules}
 use native.Mathlib.Omega.{arith}
-use mathlib.Core.Path.{refl, sym}
+use mathlib.Core.Path.{refl, sym, ◌∙◌}
 use Rattle.rules.specs.Sweep.{has}
 use Rattle.records.proofs.Laws.{held_all, held-as, added-by, added-as, added-join}
-use Rattle.records.proofs.Sweep.{sweep-long, keep_one}
-use Rattle.nodes.specs.Shown.{In}
+use Rattle.records.proofs.Sweep.{keep_one}
 use Rattle.nodes.proofs.Shapes.{all_in}
-use Rattle.nodes.proofs.Spans.{span-whole, upto_is}
-use Rattle.nodes.proofs.Cursors.{before_last, past-last, stands, still-over, on-to}
+use Rattle.nodes.proofs.Spans.{upto_is}
+use Rattle.nodes.proofs.Iterated.{begun-to, at-first, turn, ended}
 use Rattle.nodes.proofs.Steps.{steps-start, step-at, steps_on, steps-done}
 use Rattle.resolve_lets.proofs.statements.Goals as goal
 
+pub loop-s-init : goal.loop-s-init
+loop-s-init c =
+    let h = held_all _ c.requires.0 in
+    let W = c.requires.0.scope.body.view in
+    let e = c.into_iter-s-iterator.ensures.into_iter_gives in
+    let b = c.all-s-items.ensures in
+    (begun-to e b.0 (b.1 W ∙ sym (upto_is W)), rw (at-first e b.0) (steps-start h))
+
 pub idents-total-requires : goal.idents-total-requires
 idents-total-requires c =
-    let here : In c.args.nodes.now c.args.base c.loop-children.children.at = search rules in
-    let w = c.loop-children.invariant.1.walk in
+    let i = c.loop-s.invariant in
+    let t = turn {t = c.next.new.self} i.0 c.in-Some.ensures.steps in
+    let w = i.1.walk in
     let f = w.sweep.few in
     let u = w.span.under in
     let n = c.requires.1 in
     let e = c.requires.2 in
-    (c.requires.0.scope, here, omega arith, omega arith)
+    (c.requires.0.scope, t.here, omega arith, omega arith)
 
 pub let_names-total-requires : goal.let_names-total-requires
 let_names-total-requires c =
-    let here : In c.args.nodes.now c.args.base c.loop-children.children.at = search rules in
-    let w = c.loop-children.invariant.1.walk in
+    let i = c.loop-s.invariant in
+    let t = turn {t = c.next.new.self} i.0 c.in-Some.ensures.steps in
+    let w = i.1.walk in
     let f = w.sweep.few in
     let u = w.span.under in
     let n = c.requires.1 in
     let m = c.idents-total.ensures.few in
     let e = c.requires.2 in
-    (c.requires.0, here, omega arith, omega arith)
+    (c.requires.0, t.here, omega arith, omega arith)
 
-pub step-requires : goal.step-requires
-step-requires c =
-    let here : In c.args.nodes.now c.args.base c.loop-children.children.at = search rules in
-    stands c.loop-children.invariant.0 c.args.nodes.now (here)
-
-pub loop-children-smaller : goal.loop-children-smaller
-loop-children-smaller c =
-    let here : In c.args.nodes.now c.args.base c.loop-children.children.at = search rules in
-    let i = c.loop-children.invariant in
-    let n = (step-at i.1 (here) (on-to i.0 c.step.ensures) (held_all _ c.requires.0)).past in
-    let h = before_last i.0 c.loop-children-test.true in
-    omega arith
-
-pub loop-children-preserved : goal.loop-children-preserved
+pub loop-s-preserved : goal.loop-s-preserved
 unfolding all_in has
-loop-children-preserved c =
-    let here : In c.args.nodes.now c.args.base c.loop-children.children.at = search rules in
-    let i = c.loop-children.invariant in
-    let on = on-to i.0 c.step.ensures in (
-      still-over i.0 c.step.ensures,
-      steps_on refl (held_all _ c.requires.0) i.1 (here) on
-          (added-as (λ T. sym (keep_one _ _ (step-at i.1 (here) on T).is)) (added-join (added-by (held-as (λ T. T.scope)) (λ h. refl) c.idents-total.ensures) c.let_names-total.ensures)),
+loop-s-preserved c =
+    let i = c.loop-s.invariant in
+    let t = turn i.0 c.in-Some.ensures.steps in
+    let w = rw (← t.is) at i.1 in (
+      t.still,
+      steps_on refl (held_all _ c.requires.0) w t.here t.moved
+          (added-as (λ T. sym (keep_one _ _ (step-at w t.here t.moved T).is)) (added-join (added-by (held-as (λ T. T.scope)) (λ h. refl) c.idents-total.ensures) c.let_names-total.ensures)),
     )
 
-pub overflow_add-end : goal.overflow_add-end
-overflow_add-end c = let W = c.requires.0.scope.body.view in let u = (span-whole W (upto_is W)).under in omega arith
-
-pub loop-children-init : goal.loop-children-init
-loop-children-init c = (record { part = refl; last = refl }, steps-start (held_all _ c.requires.0))
-
-pub shape_of-out : goal.shape_of-out
-shape_of-out c = sweep-long c.loop-children.invariant.1.walk.sweep (held_all _ c.requires.0)
-
 pub returns : goal.returns
-returns c = let i = c.loop-children.invariant in steps-done i.1 (past-last i.0 c.loop-children-test.false)
+returns c = let i = c.loop-s.invariant in steps-done i.1 (ended i.0 c.in-None.ensures.steps.3)

@@ -1,5 +1,4 @@
 -- `calls22` meets its contract: one sweep over the nodes that are lent, which all stand in the entry that is told.
-use Prim.Native.Nat.{◌-◌}
 use Rattle.records.proofs.Sweep.{Sweeping}
 use Rattle.nodes.specs.Shown.{tree_of}
 use Rattle.nodes.specs.Entries.{HeldPart}

@@ -1,47 +1,52 @@
 -- `many_assets` meets its contract: a walk over items and fields meets a second Asset item, or the end.
-use borrow.Author.Rules.{rules}
 use native.Mathlib.Omega.{arith}
-use Prim.Native.Nat.{ℕ, ◌<◌, ◌≤◌}
-use mathlib.Core.Path.{◌≡◌, refl, sym, ◌∙◌}
-use mathlib.Core.Bool.{false}
+use mathlib.Core.Path.{refl, sym, ◌∙◌}
 use Rattle.rules.specs.Sweep.{has}
 use Rattle.rules.specs.Tree.{asset, declarations}
-use Rattle.nodes.specs.Shown.{View, tree_of}
-use Rattle.nodes.proofs.Spans.{span_below}
+use Rattle.nodes.specs.Shown.{tree_of}
 use Rattle.nodes.proofs.Shapes.{all_in}
-use Rattle.nodes.proofs.Walks.{declarations-on, declaration-moves, none_of}
-use Rattle.resolve_mints.proofs.Assets.{one-starts, one-still, one-met, many, one}
+use Rattle.nodes.proofs.Walks.{declarations-on, none_of}
+use Rattle.nodes.proofs.Declared.{begun, at-first, ends-at, turn, ended}
+use Rattle.resolve_mints.proofs.Assets.{met-starts, met-still, met-now, many, few}
 use Rattle.resolve_mints.proofs.many_assets.Goals as goal
 
-pub loop-next-init : goal.loop-next-init
-loop-next-init c = let W = c.requires.0 in let S = span_below W c.requires.1 (c.end-end.ensures W) in let h = S.order in (S, omega arith, h, λ W. one-starts (tree_of W))
+pub loop-p-init : goal.loop-p-init
+loop-p-init c =
+    let e = c.into_iter-p-iterator.ensures.into_iter_gives in
+    let b = c.of-p-items.ensures in
+    (begun e b, rw (at-first e b) (omega arith), λ W. rw (at-first e b) (met-starts (tree_of W)))
 
-pub returns-then-asset-gt0 : goal.returns-then-asset-gt0
-returns-then-asset-gt0 c = λ W. many (tree_of W) refl (c.loop-next.invariant.3 W) c.if-asset-gt0.true (sym (c.kind.ensures W) ∙ c.if-kind-eq-ASSET.true) (let e = c.end-end.ensures W in let l = c.loop-next-test.true in omega arith)
+pub returns-then-met : goal.returns-then-met
+returns-then-met c =
+    λ W.
+    let i = c.loop-p.invariant in
+    let t = turn {t = c.next.new.self} i.0 c.in-Some.ensures.steps in
+    let h = t.before in
+    let d = ends-at c.into_iter-p-iterator.ensures.into_iter_gives c.of-p-items.ensures W in
+    many (tree_of W) refl (rw (← t.is) at (i.2 W)) c.if-met.true (sym (c.kind.ensures W) ∙ c.if-kind-eq-ASSET.true) (omega arith)
 
-pub loop-next-smaller-then-kind-eq-ASSET : goal.loop-next-smaller-then-kind-eq-ASSET
-loop-next-smaller-then-kind-eq-ASSET c =
-    let moved : (c.loop-next.next < c.next_declaration-next.result) × (c.next_declaration-next.result ≤ c.end-end.result) = let W = c.requires.0 in declaration-moves W (search rules) c.loop-next.invariant.1 c.requires.1 (c.end-end.ensures W) c.loop-next-test.true (c.next_declaration-next.ensures W) in
-    let m = moved in omega arith
-
-pub loop-next-preserved-then-kind-eq-ASSET : goal.loop-next-preserved-then-kind-eq-ASSET
+pub loop-p-preserved : goal.loop-p-preserved
 unfolding all_in has
-loop-next-preserved-then-kind-eq-ASSET c =
-    let moved : (c.loop-next.next < c.next_declaration-next.result) × (c.next_declaration-next.result ≤ c.end-end.result) = let W = c.requires.0 in declaration-moves W (search rules) c.loop-next.invariant.1 c.requires.1 (c.end-end.ensures W) c.loop-next-test.true (c.next_declaration-next.ensures W) in
-    let none : (W : View c.args.nodes.now 0) (j : ℕ) → c.loop-next.next < j → j < c.next_declaration-next.result → has ((tree_of W).kind j) asset ≡ false = λ W. none_of asset declarations refl (declarations-on W (search rules) c.loop-next.invariant.1 (c.next_declaration-next.ensures W)) in
-    let m = moved in (c.loop-next.invariant.0, omega arith, m.1, λ W. one-met (tree_of W) (c.loop-next.invariant.3 W) m.0 (none W) c.if-asset-gt0.false (sym (c.kind.ensures W) ∙ c.if-kind-eq-ASSET.true))
+loop-p-preserved c =
+    let i = c.loop-p.invariant in
+    let t = turn i.0 c.in-Some.ensures.steps in
+    let z = rw (← t.is) at i.1 in
+    let n = (declarations-on c.requires.0 t.here z (t.moved c.requires.0)).after in
+    (t.still, omega arith, λ W. let N = declarations-on W t.here z (t.moved W) in met-still (tree_of W) (rw (← t.is) at (i.2 W)) N.after (none_of asset declarations refl N) (λ e. c.if-kind-eq-ASSET.false (c.kind.ensures W ∙ e)))
 
-pub loop-next-smaller : goal.loop-next-smaller
-loop-next-smaller c =
-    let moved : (c.loop-next.next < c.next_declaration-next.result) × (c.next_declaration-next.result ≤ c.end-end.result) = let W = c.requires.0 in declaration-moves W (search rules) c.loop-next.invariant.1 c.requires.1 (c.end-end.ensures W) c.loop-next-test.true (c.next_declaration-next.ensures W) in
-    let m = moved in omega arith
-
-pub loop-next-preserved : goal.loop-next-preserved
+pub loop-p-preserved-then-kind-eq-ASSET : goal.loop-p-preserved-then-kind-eq-ASSET
 unfolding all_in has
-loop-next-preserved c =
-    let moved : (c.loop-next.next < c.next_declaration-next.result) × (c.next_declaration-next.result ≤ c.end-end.result) = let W = c.requires.0 in declaration-moves W (search rules) c.loop-next.invariant.1 c.requires.1 (c.end-end.ensures W) c.loop-next-test.true (c.next_declaration-next.ensures W) in
-    let none : (W : View c.args.nodes.now 0) (j : ℕ) → c.loop-next.next < j → j < c.next_declaration-next.result → has ((tree_of W).kind j) asset ≡ false = λ W. none_of asset declarations refl (declarations-on W (search rules) c.loop-next.invariant.1 (c.next_declaration-next.ensures W)) in
-    let m = moved in (c.loop-next.invariant.0, omega arith, m.1, λ W. one-still (tree_of W) (c.loop-next.invariant.3 W) m.0 (none W) (λ e. c.if-kind-eq-ASSET.false (c.kind.ensures W ∙ e)))
+loop-p-preserved-then-kind-eq-ASSET c =
+    let i = c.loop-p.invariant in
+    let t = turn i.0 c.in-Some.ensures.steps in
+    let z = rw (← t.is) at i.1 in
+    let n = (declarations-on c.requires.0 t.here z (t.moved c.requires.0)).after in
+    (t.still, omega arith, λ W. let N = declarations-on W t.here z (t.moved W) in met-now (tree_of W) (rw (← t.is) at (i.2 W)) N.after (none_of asset declarations refl N) c.if-met.false (sym (c.kind.ensures W) ∙ c.if-kind-eq-ASSET.true))
 
 pub returns : goal.returns
-returns c = λ W. one (tree_of W) refl (c.loop-next.invariant.3 W) (let e = c.end-end.ensures W in let l = c.loop-next-test.false in omega arith)
+returns c =
+    λ W.
+    let i = c.loop-p.invariant in
+    let l = ended i.0 c.in-None.ensures.steps.2 in
+    let d = ends-at c.into_iter-p-iterator.ensures.into_iter_gives c.of-p-items.ensures W in
+    few (tree_of W) refl (i.2 W) (omega arith)

@@ -1,47 +1,45 @@
 -- `group24` meets its contract: a walk from item to item, with nothing noted between them.
-use borrow.Author.Rules.{rules}
 use native.Mathlib.Omega.{arith}
 use mathlib.Core.Path.{refl}
 use Rattle.rules.specs.Sweep.{has}
 use Rattle.rules.specs.Resolve.{group24}
 use Rattle.records.proofs.Laws.{added-by}
-use Rattle.records.proofs.Sweep.{sweep-long}
 use Rattle.nodes.proofs.Shapes.{all_in}
-use Rattle.nodes.proofs.Steps.{items-on, below-starts, below-moves, below-done}
-use Rattle.nodes.proofs.Cursors.{before_last, past-last, still-over, on-to}
+use Rattle.nodes.proofs.Steps.{items-on, below-starts, below-done}
+use Rattle.nodes.proofs.Iterated.{begun, at-first, ends-at, turn, ended}
 use Rattle.resolve_params.proofs.Lent.{fresh, cleaned}
 use Rattle.resolve_params.proofs.group24.Goals as goal
+
+pub loop-item-init : goal.loop-item-init
+loop-item-init c =
+    let e = c.into_iter-item-iterator.ensures.into_iter_gives in
+    let b = c.of-item-items.ensures in
+    (begun e b.0, rw (at-first e b.0) (below-starts 0 c.requires.0 c.requires.1 (ends-at 0 e b.1)), λ T. fresh T)
 
 pub entry-total-requires : goal.entry-total-requires
 entry-total-requires c =
     let T = c.requires.0 in
-    let i = c.loop-children.invariant in
+    let i = c.loop-item.invariant in
+    let t = turn {t = c.next.new.self} i.0 c.in-Some.ensures.steps in
+    let z = t.is in
+    let l = i.1.sweep.low in
     let f = i.1.sweep.few in
     let u = i.1.span.under in
     let n = c.requires.2 in
-    (cleaned T (i.2 T), search rules, i.1.sweep.low, omega arith)
+    (cleaned T (i.2 T), t.here, omega arith, omega arith)
 
-pub loop-children-smaller : goal.loop-children-smaller
-loop-children-smaller c =
-    let i = c.loop-children.invariant in
-    let m = below-moves 0 c.requires.0 c.requires.1 c.end-end.ensures i.1 (before_last i.0 c.loop-children-test.true) (on-to i.0 c.step.ensures) in
-    omega arith
-
-pub loop-children-preserved : goal.loop-children-preserved
+pub loop-item-preserved : goal.loop-item-preserved
 unfolding all_in has
-loop-children-preserved c =
-    let i = c.loop-children.invariant in (
-      still-over i.0 c.step.ensures,
-      items-on refl c.requires.0 c.requires.1 c.end-end.ensures i.1 (before_last i.0 c.loop-children-test.true) (on-to i.0 c.step.ensures) (added-by (λ T. cleaned T (i.2 T)) (λ T. refl) c.entry-total.ensures.adds),
+loop-item-preserved c =
+    let P = c.requires in
+    let i = c.loop-item.invariant in
+    let t = turn i.0 c.in-Some.ensures.steps in
+    let d = ends-at 0 c.into_iter-item-iterator.ensures.into_iter_gives c.of-item-items.ensures.1 in (
+      t.still,
+      items-on refl P.0 P.1 d (rw (← t.is) at i.1) t.before t.moved (added-by (λ T. cleaned T (i.2 T)) (λ T. refl) c.entry-total.ensures.adds),
       λ T. c.entry-total.ensures.cleans_noted (cleaned T (i.2 T)),
     )
 
 pub returns : goal.returns
 unfolding group24
-returns c = let i = c.loop-children.invariant in below-done 0 i.1 (past-last i.0 c.loop-children-test.false) c.end-end.ensures
-
-pub loop-children-init : goal.loop-children-init
-loop-children-init c = (record { part = refl; last = refl }, below-starts 0 c.requires.0 c.requires.1 c.end-end.ensures, λ T. fresh T)
-
-pub shape_of-out : goal.shape_of-out
-shape_of-out c = sweep-long c.loop-children.invariant.1.sweep c.requires.0
+returns c = let i = c.loop-item.invariant in below-done 0 i.1 (ended i.0 c.in-None.ensures.steps.3) (ends-at 0 c.into_iter-item-iterator.ensures.into_iter_gives c.of-item-items.ensures.1)
