@@ -20,6 +20,6 @@ returns c =
     let looked : LookedWords c.area-nodes.result.now c.find_words-words.result = let S = c.area-nodes.ensures in record { view = view_of S; root = root-of S; words_are = c.find_words-words.ensures } in
     let K = c.entries-stopped.ensures (tables-of (looked) c.asset_words-asset_words.ensures c.mark_readers.ensures) in
     elim c.match-stopped.branch [
-      in-Ok w ↦ rw w.table-is (table-made c.requires.admitted (rw w.in-Ok.is at K))
-    | in-Err w ↦ rw w.table-is (table-made c.requires.admitted (rw w.in-Err.is at K))
+      | in-Ok w ↦ rw w.table-is (table-made c.requires.admitted (rw w.in-Ok.is at K))
+      | in-Err w ↦ rw w.table-is (table-made c.requires.admitted (rw w.in-Err.is at K))
     ]
