@@ -12,7 +12,7 @@ use Rattle.rules.specs.All.{entry_of}
 use Rattle.records.specs.Records.{Laid}
 use Rattle.records.proofs.Laws.{laid-join, laid_as, laid-entered}
 use Rattle.records.proofs.Sweep.{keep_one, has_one}
-use Rattle.nodes.specs.Shown.{In, tree_of}
+use Rattle.nodes.specs.Shown.{View, In, tree_of}
 use Rattle.nodes.proofs.Parts.{inside, formed}
 use Rattle.linear_parts.specs.declared.Words.{Words}
 use Rattle.linear_parts.specs.Parts.{rows_of}
@@ -23,6 +23,10 @@ use Rattle.linear_rows.specs.Tallies.{Tallied, judged_at}
 use Rattle.linear_rows.proofs.Judged.{judged-place}
 use Rattle.linear.specs.Seen.{RowsNoted, LinearTables, item_linear, row_marks, row_uses}
 use Rattle.linear.proofs.Judged.{rows-judged}
+
+-- the kind of a node as it was read
+pub kind-of : {nodes : List ℕ} (e : ℕ) {k n : ℕ} → ((W : View nodes 0) → k ≡ (tree_of W).kind e) → k ≡ n → (W : View nodes 0) → (tree_of W).kind e ≡ n
+kind-of e f d W = sym (f W) ∙ d
 
 -- the records of an entry: the 60s, then the rows in order
 item-is : (s : List ℕ) (e : ℕ) → (tree s).kind e ≡ 9 → {n : ℕ} {places first last tallies : List ℕ} → Rows s (rows_of e (tree s)) n places first last → Tallied (row_marks (tree s) e) (row_uses (tree s) e) tallies

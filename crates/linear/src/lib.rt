@@ -13,7 +13,7 @@ use linear_occurrences::Consumers;
 use linear_parts::Words;
 use linear_rows::Tallies;
 use linear_tracked::Cells;
-use nodes::{Cursor, ENTRY, Marks};
+use nodes::{Children, ENTRY, Marks};
 use places::Places;
 
 // The marks and the counted occurrences of an entry on its rows.
@@ -88,29 +88,11 @@ fn entries(
     requires { LinearTables nodes.now words reader.now burned.old places.old first.old last.old tallies.old × Clear 1 consumers.old }
     ensures { Adds (seen_linear linear nodes.now words reader.now burned.old places.old first.old last.old tallies.old) (3070 * 2048) out.old out.new 0 result }
 {
-    let to = nodes::end(nodes, 0, 0);
     let mut total = 0;
-    let mut children = Cursor {
-        base: 0,
-        at: 1,
-        end: to,
-    };
-    while children.at < children.end {
+    for item in Children::of(nodes, 0, 0) {
         total = entry(
-            words,
-            nodes,
-            children.at,
-            reader,
-            burned,
-            consumers,
-            places,
-            first,
-            last,
-            tallies,
-            out,
-            total,
+            words, nodes, item, reader, burned, consumers, places, first, last, tallies, out, total,
         );
-        children = children.step(nodes).rest;
     }
     total
 }

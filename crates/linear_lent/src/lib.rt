@@ -42,7 +42,7 @@ fn answer(image: &[u8], c: State) -> Verdict
         return Verdict::Accepted;
     }
     if number < 9 {
-        return Verdict::Image(linear_steps::wide(number));
+        return Verdict::Image(usize::from(number));
     }
     refused_at(image, number, place)
 }
@@ -55,7 +55,7 @@ fn refused_at(image: &[u8], code: u16, place: u16) -> Verdict
     match Image::read(image) {
         Admission::Refused(number) => Verdict::Image(number),
         Admission::Admitted(head) => {
-            let span = spans::of_place(image, head, linear_steps::wide(place));
+            let span = spans::of_place(image, head, usize::from(place));
             let from = span.from;
             let to = span.to;
             Verdict::Refused {

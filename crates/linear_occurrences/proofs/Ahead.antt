@@ -18,7 +18,7 @@ use Rattle.nodes.proofs.Folding.{folded-none, folded_on}
 use Rattle.places.specs.declared.Note.TheVariants.{Last}
 use Rattle.places.specs.Places.{noting, notes}
 use Rattle.places.proofs.Reading.{LastOr, last_or}
-use Rattle.linear_occurrences.specs.declared.Occurrence.TheVariants.{Nothing}
+use Rattle.std.specs.Prelude.{None}
 use Rattle.linear_occurrences.specs.Counted.{Counting, Cells, Ahead, Clear, Finding, consumed_by, takes_node, taker_of}
 use Rattle.linear_occurrences.proofs.Cells.{cells_self}
 use Rattle.linear_occurrences.proofs.Counted.{untaken, takes-consumes, consumes-takes}
@@ -81,5 +81,5 @@ module _ {nodes : List ℕ} {base : ℕ} {reader : List Bool} (T : Counting node
             (λ f. let a = T.first.after in let l = f.0.low in let h = f.0.high in let u = inside T.view i in rw (ne_eqb v 0 (λ e. omega arith)) (refl, takes-consumes T v p l (omega arith) f.0.is below))
 
   -- another node is no occurrence
-  pub found_none : {p : ℕ} → (t.kind p ≡ 35 → ⊥) → Finding t T.entry p Nothing
+  pub found_none : {p : ℕ} → (t.kind p ≡ 35 → ⊥) → Finding t T.entry p None
   found_none n = λ c. n (Memᴰ.eq_of_singleton c.1.0.kind)

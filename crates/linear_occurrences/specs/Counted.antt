@@ -1,6 +1,6 @@
 -- Counted occurrences node by node ("Linear" of document 01, E5 of document 02): what an Assign or a Call takes, for each of 2,048 nodes, by
 -- its number, which one takes it, and what is found at a node.
-use Rattle.std.specs.Prelude.{ℕ, ◌-◌, ◌<◌, ◌≤◌, ◌≡◌, Bool, not, List, [], eqb, length, get_or}
+use Rattle.std.specs.Prelude.{ℕ, ◌-◌, ◌<◌, ◌≤◌, ◌≡◌, Bool, not, List, [], eqb, length, get_or, Option, None, Some}
 use Rattle.image.specs.Maxima.{max_nodes}
 use Rattle.image.specs.Pick.{pick, both}
 use Rattle.rules.specs.Sweep.{either, also, has, has_word}
@@ -14,21 +14,20 @@ use Rattle.nodes.specs.First.{Starts}
 use Rattle.places.specs.declared.Note.TheVariants.{Last}
 use Rattle.places.specs.Places.{notes}
 use Rattle.linear_occurrences.specs.declared.Occurrence.{Occurrence}
-use Rattle.linear_occurrences.specs.declared.Occurrence.TheVariants.{Nothing, Consumed}
 
 -- what is found at node p of the entry e: p itself, with the node that consumes it; or nothing, where no node does
-abbrev pub Finding : Tree → ℕ → ℕ → Occurrence → Type 0
-Finding t e p Nothing = Counted t e p → ⊥
-Finding t e p (Consumed i c) = (i ≡ p) × Consumes t e c p
+abbrev pub Finding : Tree → ℕ → ℕ → Option Occurrence → Type 0
+Finding t e p None = Counted t e p → ⊥
+Finding t e p (Some o) = (o.ident ≡ p) × Consumes t e o.consumer p
 
 -- what f gives for the Ident that was found, if one was
-abbrev pub for_ident : Occurrence → (ℕ → List ℕ) → List ℕ
-for_ident Nothing f = []
-for_ident (Consumed i c) f = f i
+abbrev pub for_ident : Option Occurrence → (ℕ → List ℕ) → List ℕ
+for_ident None f = []
+for_ident (Some o) f = f o.ident
 
 -- the Ident i, by the number that a table has for it: 0 where nothing consumes it
-abbrev pub consumed_by : ℕ → ℕ → Occurrence
-consumed_by i c = pick (eqb c 0) Nothing (Consumed i c)
+abbrev pub consumed_by : ℕ → ℕ → Option Occurrence
+consumed_by i c = pick (eqb c 0) None (Some (record { ident = i; consumer = c }))
 
 -- node i is the value of the Assign s; the argument a peels to it; an argument of the Call c does
 abbrev pub is_value : Tree → ℕ → ℕ → Bool
@@ -89,7 +88,7 @@ pub record Clear (p : ℕ) (r : List ℕ) : Type 0 where
   pub cell : (i : ℕ) → p ≤ i → i < max_nodes → get_or r i 0 ≡ 0
 
 -- the answer for node p of a sweep that has come to p is what is found there
-abbrev pub Finds : (nodes : List ℕ) (base : ℕ) (reader : List Bool) (p : ℕ) (consumers : List ℕ) → Occurrence → Type 0
+abbrev pub Finds : (nodes : List ℕ) (base : ℕ) (reader : List Bool) (p : ℕ) (consumers : List ℕ) → Option Occurrence → Type 0
 Finds nodes base reader p consumers r =
     (T : Counting nodes base reader) → Ahead (tree_of T.view) base p consumers → Finding (tree_of T.view) T.entry p r
 

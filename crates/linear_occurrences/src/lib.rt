@@ -10,28 +10,28 @@ ghost use Rattle.linear_occurrences.specs.Counted.{IsCall, Counting, Finds, Take
 
 use image::Image;
 use names::Words;
-use nodes::{ASSIGN, CALL, Cursor, IDENT, Marks, Past};
+use nodes::{ASSIGN, CALL, Children, IDENT, Marks, Past};
 
 // For each of 2,048 nodes, by its number, the Assign or the Call that takes it; 0 where none does, as node 0 is the contract.
 pub type Consumers = [u16; Image::NODES];
 
-// What is found at a node: a counted occurrence, as its Ident and the node that consumes it, or nothing.
+// A counted occurrence: its Ident and the node that consumes it.
 #[derive(Clone, Copy)]
-pub enum Occurrence {
-    Nothing,
-    Consumed { ident: usize, consumer: u16 },
+pub struct Occurrence {
+    pub ident: usize,
+    pub consumer: u16,
 }
 
 // An Ident, by what the table has for it.
-fn consumed(consumers: &Consumers, ident: usize) -> Occurrence
+fn consumed(consumers: &Consumers, ident: usize) -> Option<Occurrence>
     requires { ident < 2048 }
     ensures { result ≡ consumed_by ident (get_or consumers.now ident 0) }
 {
     let consumer = consumers[ident];
     if consumer == 0 {
-        return Occurrence::Nothing;
+        return None;
     }
-    Occurrence::Consumed { ident, consumer }
+    Some(Occurrence { ident, consumer })
 }
 
 // A node is taken by `consumer`.
@@ -58,29 +58,21 @@ fn take_arguments(nodes: &[u8], base: usize, call: usize, consumers: &mut Consum
     requires { View nodes.now base × IsCall nodes.now base call }
     ensures { Takes call (λ (W : View nodes.now base) i. is_taken (tree_of W) i call) consumers.old consumers.new }
 {
-    let to = nodes::end(nodes, base, call);
     let callee = call + 1;
     let from = nodes::end(nodes, base, callee);
-    let mut children = Cursor {
-        base,
-        at: from,
-        end: to,
-    };
-    while children.at < children.end {
-        let step = children.step(nodes);
-        take_argument(nodes, base, call, step.child, consumers);
-        children = step.rest;
+    for argument in Children::from(nodes, base, call, from) {
+        take_argument(nodes, base, call, argument, consumers);
     }
 }
 
-// What is found at node p. It is asked node by node from the entry's first statement on: what p itself takes stands after it, and the table has it then.
+// The counted occurrence at node p, if it is one. It is asked node by node from the entry's first statement on: what p itself takes stands after it, and the table has it then.
 pub fn occurrence_at(
     nodes: &[u8],
     base: usize,
     p: usize,
     reader: &Marks,
     consumers: &mut Consumers,
-) -> Occurrence
+) -> Option<Occurrence>
     requires { Counting nodes.now base reader.now × In nodes.now base p }
     ensures finds { Finds nodes.now base reader.now p consumers.old result }
     ensures takes_its_own { TakesItsOwn nodes.now base reader.now p consumers.old consumers.new }
@@ -90,16 +82,16 @@ pub fn occurrence_at(
         ASSIGN => {
             let value = nodes::end(nodes, base, p + 1);
             take(consumers, value, p);
-            Occurrence::Nothing
+            None
         }
         CALL => {
             if nodes::is_field(nodes, base, p + 1, reader) {
-                return Occurrence::Nothing;
+                return None;
             }
             take_arguments(nodes, base, p, consumers);
-            Occurrence::Nothing
+            None
         }
-        _ => Occurrence::Nothing,
+        _ => None,
     }
 }
 

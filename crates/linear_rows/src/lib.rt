@@ -18,18 +18,12 @@ pub const COUNT: usize = 1;
 
 pub const RELATED: usize = 2;
 
-fn wide(x: u16) -> usize
-    ensures { (result ≡ x) × (result < 65536) }
-{
-    x as usize
-}
-
 // A cell of a row.
 pub fn cell(tallies: &Tallies, row: usize, field: usize) -> usize
     requires { (row < 511) × (field < 3) }
     ensures { (result ≡ get_or tallies.now (3 * row + field) 0) × (result < 65536) }
 {
-    wide(tallies[3 * row + field])
+    usize::from(tallies[3 * row + field])
 }
 
 // 61 at a row: it has neither a mark nor a counted occurrence.
@@ -74,7 +68,7 @@ fn judge_row(
     ensures adds { Adds (λ (_ : Unit {0}). under entry (judged_at places.now tallies.old row)) 2 out.old out.new count result }
     ensures tallies_value { tallies.new ≡ set (set (set tallies.old (3 * row) 0) (3 * row + 1) 0) (3 * row + 2) 0 }
 {
-    let place = wide(places[row]);
+    let place = usize::from(places[row]);
     let first = records::emit_if(is_unused(tallies, row), out, count, 61, place, entry);
     let total = records::emit_hit(used_twice(tallies, row), out, first, 62, place, entry);
     blank(tallies, row);
@@ -95,10 +89,8 @@ pub fn judge(
     ensures blanks { Blanks n tallies.old tallies.new }
 {
     let mut total = count;
-    let mut row = 0;
-    while row < n {
+    for row in 0..n {
         total = judge_row(entry, row, places, tallies, out, total);
-        row += 1;
     }
     total
 }

@@ -29,12 +29,6 @@ pub struct Turn {
     pub state: State,
 }
 
-pub fn wide(x: u16) -> usize
-    ensures { (result ≡ x) × (result < 65536) }
-{
-    x as usize
-}
-
 // The state before the first step.
 fn state_of(left: usize, number: u16, place: u16) -> State
     ensures { result ≡ state_with left (found_at number place) }
@@ -84,7 +78,7 @@ fn judge_row(row: Row, found: Found) -> Found
     if place == 0 {
         return found;
     }
-    let times = wide(row.marks) + wide(row.count);
+    let times = usize::from(row.marks) + usize::from(row.count);
     if times == 0 {
         return Found { number: 61, place };
     }

@@ -10,8 +10,7 @@ use Rattle.image.proofs.Decide.{eq-or-ne, lt-or-ge}
 use Rattle.rules.specs.Sweep.{run, has}
 use Rattle.rules.specs.Tree.{tree, entry as entries}
 use Rattle.records.proofs.Sweep.{run_none, run_on, keep-none}
-use Rattle.linear_table.specs.declared.Stood.{Stood}
-use Rattle.linear_table.specs.Table.{Holds, entry_rows, item_rows, entry60s, item60s, Cut, ItemStands}
+use Rattle.linear_table.specs.Table.{Holds, entry_rows, item_rows, entry60s, item60s, Cut, ItemStands, ItemStops}
 use Rattle.linear_table.proofs.Held.{holds_as}
 
 pub record Cutting (s table : List ℕ) (total p : ℕ) : Type 0 where
@@ -27,31 +26,31 @@ cutting-starts {s} H = record {
 }
 
 module _ {s table : List ℕ} {total p : ℕ} (K : Cutting s table total p) where
-  module _ {table' : List ℕ} {burned : List Bool} {consumers places first last tallies : List ℕ} {r : Stood} (I : ItemStands s p total table table' burned consumers places first last tallies r) where
-    pub cutting-on : {q : ℕ} → r.alias ≡ 0 → 1 ≤ p → p < q → ((i : ℕ) → p < i → i < q → has ((tree s).kind i) entries ≡ false) → Cutting s table' r.rows q
-    cutting-on {q} e l h z =
-        let m : run (item_rows s) 1 (q - 1) ≡ run (item_rows s) 1 (p - 1) ++ item_rows s p = run_on (item_rows s) 1 p q l h (λ i a b. keep-none (entry_rows s) i (z i a b)) in
-        record {
-          none = λ i a b.
-              ⊎_elim (λ (d : i ≡ p). ap (item60s (tree s)) d ∙ I.first60.none e)
-              (λ (n : i ≡ p → ⊥). ⊎_elim (λ (g : i < p). K.none i a g) (λ (g : p ≤ i). keep-none (entry60s (tree s)) i (z i (omega arith) b)) (lt-or-ge i p)) (eq-or-ne i p);
-          rows = holds_as (sym m) (I.more e (run (item_rows s) 1 (p - 1)) K.count K.rows);
-          count = ap length m ∙ length-append (run (item_rows s) 1 (p - 1)) (item_rows s p) ∙ ap (λ (k : ℕ). k + length (item_rows s p)) K.count ∙ sym (I.counted e);
-        }
+  pub cutting-on : {table' : List ℕ} {burned : List Bool} {consumers places first last tallies : List ℕ} {n q : ℕ} → ItemStands s p total table table' burned consumers places first last tallies n
+      → 1 ≤ p → p < q → ((i : ℕ) → p < i → i < q → has ((tree s).kind i) entries ≡ false) → Cutting s table' n q
+  cutting-on {q = q} I l h z =
+      let m : run (item_rows s) 1 (q - 1) ≡ run (item_rows s) 1 (p - 1) ++ item_rows s p = run_on (item_rows s) 1 p q l h (λ i a b. keep-none (entry_rows s) i (z i a b)) in
+      record {
+        none = λ i a b.
+            ⊎_elim (λ (d : i ≡ p). ap (item60s (tree s)) d ∙ I.none)
+            (λ (n : i ≡ p → ⊥). ⊎_elim (λ (g : i < p). K.none i a g) (λ (g : p ≤ i). keep-none (entry60s (tree s)) i (z i (omega arith) b)) (lt-or-ge i p)) (eq-or-ne i p);
+        rows = holds_as (sym m) (I.more (run (item_rows s) 1 (p - 1)) K.count K.rows);
+        count = ap length m ∙ length-append (run (item_rows s) 1 (p - 1)) (item_rows s p) ∙ ap (λ (k : ℕ). k + length (item_rows s p)) K.count ∙ sym I.counted;
+      }
 
-    pub cut-stops : (r.alias ≡ 0 → ⊥) → 1 ≤ p → p < (tree s).end 0 → 4 * total < p → p ≤ 2048 → Cut s table' r.alias
-    cut-stops n l h f u =
-        let z : 0 < r.alias = ⊎_elim (λ (e : r.alias ≡ 0). absurd (n e)) (λ (d : r.alias ≡ 0 → ⊥). omega arith) (eq-or-ne r.alias 0) in
-        record {
-          upto = p;
-          low = l;
-          high = omega arith;
-          none = K.none;
-          rows = rw (I.same z) K.rows;
-          few = let c = K.count in omega arith;
-          whole = λ e. absurd (n e);
-          some = λ g. (h, I.first60.some z);
-        }
+  pub cut-stops : {table' : List ℕ} {r : ℕ} → ItemStops s p table table' r → 1 ≤ p → p < (tree s).end 0 → 4 * total < p → p ≤ 2048 → Cut s table' r
+  cut-stops I l h f u =
+      let z = I.first60.after in
+      record {
+        upto = p;
+        low = l;
+        high = omega arith;
+        none = K.none;
+        rows = rw I.same K.rows;
+        few = let c = K.count in omega arith;
+        whole = λ e. absurd (omega arith);
+        some = λ g. (h, (I.first60.rest, I.first60.is));
+      }
 
   pub cut-done : 1 ≤ p → p ≡ (tree s).end 0 → 4 * total < p → p ≤ 2048 → Cut s table 0
   cut-done l d f u = record {

@@ -52,14 +52,14 @@ none-laid [] L e = refl
 none-laid (r ∷ m) {k = k} L e = let c : k ≡ 0 + suc (length m) = L.count in absurd (omega arith)
 
 module _ (t : Tree) (e : ℕ) {f : ℕ → ℕ} {o : List ℕ} {k : ℕ} (L : Laid f (replicate 4 0) 0 (entry60s t e) o k) where
-  pub first60-none : k ≡ 0 → First60 (entry60s t e) 0
-  first60-none z = record { none = λ d. none-laid (entry60s t e) L z; some = λ h. absurd (omega arith) }
+  pub sixty-none : k ≡ 0 → entry60s t e ≡ []
+  sixty-none z = none-laid (entry60s t e) L z
 
-  pub first60-some : (k ≡ 0 → ⊥) → {r : ℕ} → r ≡ get_or o 1 0 → First60 (entry60s t e) r
-  first60-some n {r} d =
+  pub first60-some : (k ≡ 0 → ⊥) → First60 (entry60s t e) (get_or o 1 0)
+  first60-some n =
       ⊎_elim (λ (z : entry60s t e ≡ []). absurd (n (let c : k ≡ 0 + length (entry60s t e) = L.count in let l : length (entry60s t e) ≡ 0 = ap length z in omega arith)))
       (λ (q : (i : ℕ) × (m : List Rec) × (0 < i) × (entry60s t e ≡ rec 60 i 0 ∷ m)).
-      let b : r ≡ q.0 = d ∙ second_word (rec 60 q.0 0) q.1 (rw q.3 at L) in
+      let b : get_or o 1 0 ≡ q.0 = second_word (rec 60 q.0 0) q.1 (rw q.3 at L) in
       let p : 0 < q.0 = q.2 in
-      record { none = λ z. absurd (omega arith); some = λ h. (q.1, q.3 ∙ ap (λ (i : ℕ). rec 60 i 0 ∷ q.1) (sym b)) })
+      record { after = omega arith; rest = q.1; is = q.3 ∙ ap (λ (i : ℕ). rec 60 i 0 ∷ q.1) (sym b) })
       (begins-60 t e)

@@ -14,7 +14,6 @@ use Rattle.linear_rows.specs.Tallies.{marks_at, count_at}
 use Rattle.linear.specs.Seen.{Clean}
 use Rattle.linear_table.specs.declared.Row.{Row}
 pub use Rattle.linear_table.specs.Blank.{blank_row}
-use Rattle.linear_table.specs.declared.Stood.{Stood}
 
 abbrev pub nth_row : List Row → ℕ → Row
 nth_row rows i = get_or rows i blank_row
@@ -61,10 +60,11 @@ entry60s t e = below t «let» e (rule60 t e)
 abbrev pub item60s : Tree → ℕ → List Rec
 item60s t p = keep (has (t.kind p) entries) (entry60s t) p
 
--- r is the place of the first of the 60s l, 0 where there is none
+-- the first of the 60s l is at node r, which is not the contract
 pub record First60 (l : List Rec) (r : ℕ) : Type 0 where
-  pub none : r ≡ 0 → l ≡ []
-  pub some : 0 < r → (m : List Rec) × (l ≡ rec 60 r 0 ∷ m)
+  pub after : 0 < r
+  pub rest : List Rec
+  pub is : l ≡ rec 60 r 0 ∷ rest
 
 -- the cells hold the rows of all items before `upto`, which have no 60: `upto` is the first item that has one, at r, or the end where r is 0
 pub record Cut (s cells : List ℕ) (r : ℕ) : Type 0 where
@@ -95,13 +95,16 @@ row_by s x p m c = record { name = number s (x + 1); place = p; marks = m; count
 abbrev pub rows_by : {nodes places : List ℕ} {n : ℕ} → Placed nodes n places → List ℕ → ℕ → List Row
 rows_by {places = places} T tallies k = row_by T.view.image (get_or (rows_of T.entry (tree_of T.view)) k 0) (get_or places k 0) (marks_at tallies k) (count_at tallies k) ∷ []
 
--- an item's rows follow the `total` rows before, and all tables are clean again; or it has a 60, and the table stays
-pub record ItemStands (s : List ℕ) (p total : ℕ) (table table' : List ℕ) (burned : List Bool) (consumers places first last tallies : List ℕ) (r : Stood) : Type 0 where
-  pub small : r.alias < 65536
-  pub first60 : First60 (item60s (tree s) p) r.alias
-  pub same : 0 < r.alias → table' ≡ table
-  pub more : r.alias ≡ 0 → (rows : List Row) → length rows ≡ total → Holds rows table → Holds (rows ++ item_rows s p) table'
-  pub counted : r.alias ≡ 0 → r.rows ≡ total + length (item_rows s p)
-  pub room : r.alias ≡ 0 → 4 * r.rows < (tree s).end p
-  pub clean : r.alias ≡ 0 → Clean s burned places first last tallies
-  pub clear : r.alias ≡ 0 → Clear ((tree s).end p) consumers
+-- an item that has no 60: its rows follow the `total` rows before, so that there are n, and all tables are clean again
+pub record ItemStands (s : List ℕ) (p total : ℕ) (table table' : List ℕ) (burned : List Bool) (consumers places first last tallies : List ℕ) (n : ℕ) : Type 0 where
+  pub none : item60s (tree s) p ≡ []
+  pub more : (rows : List Row) → length rows ≡ total → Holds rows table → Holds (rows ++ item_rows s p) table'
+  pub counted : n ≡ total + length (item_rows s p)
+  pub room : 4 * n < (tree s).end p
+  pub clean : Clean s burned places first last tallies
+  pub clear : Clear ((tree s).end p) consumers
+
+-- an item whose first 60 is at node r: the table stays
+pub record ItemStops (s : List ℕ) (p : ℕ) (table table' : List ℕ) (r : ℕ) : Type 0 where
+  pub first60 : First60 (item60s (tree s) p) r
+  pub same : table' ≡ table

@@ -1,7 +1,7 @@
 // The table of tracked rows of a contract in plain cells ("Linear" of document 01): the rows of its entries in order, up to the first entry that has a 60, which is an offence before those of its rows and of all entries after it.
 #![tactic(auto)]
 
-ghost use Rattle.std.specs.Prelude.{◌≡◌, List, [], ◌++◌, ◌+◌, ◌*◌, ◌<◌, ◌≤◌, length, get_or};
+ghost use Rattle.std.specs.Prelude.{◌≡◌, List, [], ◌++◌, ◌+◌, ◌*◌, ◌<◌, ◌≤◌, length, get_or, MatchResult};
 ghost use Rattle.rules.specs.Sweep.{run};
 ghost use Rattle.nodes.specs.Shown.{In, Admitted, tree_of};
 ghost use Rattle.linear_occurrences.specs.Counted.{Clear};
@@ -9,14 +9,14 @@ ghost use Rattle.linear_tracked.specs.Rows.{Unrowed, TakesRows, Placed, PlaceOf}
 ghost use Rattle.linear_rows.specs.Tallies.{Blanks};
 ghost use Rattle.linear.specs.Seen.{LinearTables};
 ghost use Rattle.linear_table.specs.declared.Row.{Row};
-ghost use Rattle.linear_table.specs.Table.{stored, Holds, row_by, rows_by, entry60s, First60, ItemStands, Cut, refused_table, TableOf};
+ghost use Rattle.linear_table.specs.Table.{stored, Holds, row_by, rows_by, entry60s, First60, ItemStands, ItemStops, Cut, refused_table, TableOf};
 
 use image::{Admission, Image};
 use linear_occurrences::Consumers;
 use linear_parts::Words;
 use linear_rows::Tallies;
 use linear_tracked::Cells;
-use nodes::{Cursor, ENTRY, Marks};
+use nodes::{Children, ENTRY, Marks};
 use places::Places;
 
 // A tracked row: the number of its name, its place, its burn marks and its counted occurrences.
@@ -35,12 +35,6 @@ pub const ALIAS: usize = 2044;
 
 pub const REFUSED: usize = 2045;
 
-fn wide(x: u16) -> usize
-    ensures { (result ≡ x) × (result < 65536) }
-{
-    x as usize
-}
-
 // A row is stored in its four cells.
 fn put(table: &mut Table, i: usize, row: Row)
     requires { i < 511 }
@@ -57,7 +51,7 @@ fn row_of(nodes: &[u8], place: u16, marks: u16, count: u16) -> Row
     requires { PlaceOf nodes.now place }
     ensures { (T : PlaceOf nodes.now place) → result ≡ row_by T.view.image T.row place marks count }
 {
-    let p = linear_tracked::name_at(nodes, wide(place));
+    let p = linear_tracked::name_at(nodes, usize::from(place));
     let name = nodes::name(nodes, 0, p) as u16;
     Row {
         name,
@@ -80,23 +74,14 @@ fn stand(
     ensures holds { (T : Placed nodes.now n places.now) (rows : List Row) → length rows ≡ total → Holds rows table.old → Holds (rows ++ run (rows_by T tallies.old) 0 n) table.new }
     ensures blanks { Blanks n tallies.old tallies.new }
 {
-    let mut k = 0;
-    while k < n {
+    for k in 0..n {
         let row = row_of(nodes, places[k], tallies[3 * k], tallies[3 * k + 1]);
         put(table, total + k, row);
         linear_rows::blank(tallies, k);
-        k += 1;
     }
 }
 
-// What became of an item: how many rows there are, and the place of its first 60, 0 where it has none.
-#[derive(Clone, Copy)]
-pub struct Stood {
-    pub rows: usize,
-    pub alias: usize,
-}
-
-// The rows of an entry are tracked: how many it has itself, and its first 60.
+// The rows of an entry are tracked: how many it has itself, or the place of its first 60.
 fn track_entry(
     words: Words,
     nodes: &[u8],
@@ -104,22 +89,21 @@ fn track_entry(
     places: &mut Cells,
     first: &mut Places,
     last: &mut Places,
-) -> Stood
+) -> Result<usize, u16>
     requires { Unrowed nodes.now words entry places.old first.old last.old }
-    ensures rows_bound { (result.rows ≤ 511) × TakesRows nodes.now words entry places.old places.new first.old first.new last.old last.new result.rows }
-    ensures alias_bound { (result.alias < 65536) × ((T : Unrowed nodes.now words entry places.old first.old last.old) → First60 (entry60s (tree_of T.known.view) entry) result.alias) }
+    ensures { (T : Unrowed nodes.now words entry places.old first.old last.old) → MatchResult result
+        (λ n. (entry60s (tree_of T.known.view) entry ≡ []) × TakesRows nodes.now words entry places.old places.new first.old first.new last.old last.new n)
+        (λ alias. First60 (entry60s (tree_of T.known.view) entry) alias) }
 {
     let mut out = [0u16; 4];
     let tracked = linear_tracked::track(words, nodes, entry, places, first, last, &mut out, 0);
-    let rows = tracked.rows;
-    if tracked.count == 0 {
-        return Stood { rows, alias: 0 };
+    if tracked.count != 0 {
+        return Err(out[1]);
     }
-    let alias = wide(out[1]);
-    Stood { rows, alias }
+    Ok(tracked.rows)
 }
 
-// The rows of an item, if it is an Entry that has no 60. The other tables are left as they were found.
+// The rows of an item, if it is an Entry, or the place of its first 60: how many rows there are then. Where it has none, the other tables are left as they were found.
 fn entry(
     words: Words,
     nodes: &[u8],
@@ -133,35 +117,26 @@ fn entry(
     tallies: &mut Tallies,
     table: &mut Table,
     total: usize,
-) -> Stood
+) -> Result<usize, u16>
     requires { LinearTables nodes.now words reader.now burned.old places.old first.old last.old tallies.old × In nodes.now 0 item × (0 < item) × Clear item consumers.old × (4 * total < item) }
-    ensures { (T : LinearTables nodes.now words reader.now burned.old places.old first.old last.old tallies.old) → ItemStands T.known.view.image item total table.old table.new burned.new consumers.new places.new first.new last.new tallies.new result }
+    ensures { (T : LinearTables nodes.now words reader.now burned.old places.old first.old last.old tallies.old) → MatchResult result
+        (λ n. ItemStands T.known.view.image item total table.old table.new burned.new consumers.new places.new first.new last.new tallies.new n)
+        (λ alias. ItemStops T.known.view.image item table.old table.new alias) }
 {
     if nodes::kind(nodes, 0, item) != ENTRY {
-        return Stood {
-            rows: total,
-            alias: 0,
-        };
+        return Ok(total);
     }
-    let own = track_entry(words, nodes, item, places, first, last);
-    let n = own.rows;
-    let alias = own.alias;
-    if alias != 0 {
-        return Stood { rows: total, alias };
-    }
+    let n = track_entry(words, nodes, item, places, first, last)?;
     linear::tally(
         words, nodes, item, reader, burned, consumers, first, last, tallies,
     );
     stand(n, nodes, places, tallies, table, total);
     linear_tracked::untrack(n, nodes, places, first);
     linear_tracked::untrack(n, nodes, places, last);
-    Stood {
-        rows: total + n,
-        alias: 0,
-    }
+    Ok(total + n)
 }
 
-// The entries in order, up to the first that has a 60; gives its place, 0 where there is none.
+// The entries in order, up to the first that has a 60: its place.
 fn entries(
     words: Words,
     nodes: &[u8],
@@ -173,40 +148,19 @@ fn entries(
     last: &mut Places,
     tallies: &mut Tallies,
     table: &mut Table,
-) -> usize
+) -> Result<(), u16>
     requires { LinearTables nodes.now words reader.now burned.old places.old first.old last.old tallies.old × Clear 1 consumers.old × Holds [] table.old }
-    ensures { (result < 65536) × ((T : LinearTables nodes.now words reader.now burned.old places.old first.old last.old tallies.old) → Cut T.known.view.image table.new result) }
+    ensures { (T : LinearTables nodes.now words reader.now burned.old places.old first.old last.old tallies.old) → MatchResult result
+        (λ _. Cut T.known.view.image table.new 0) (λ alias. Cut T.known.view.image table.new alias) }
 {
-    let to = nodes::end(nodes, 0, 0);
     let mut total = 0;
-    let mut children = Cursor {
-        base: 0,
-        at: 1,
-        end: to,
-    };
-    while children.at < children.end {
-        let stood = entry(
-            words,
-            nodes,
-            children.at,
-            reader,
-            burned,
-            consumers,
-            places,
-            first,
-            last,
-            tallies,
-            table,
+    for item in Children::of(nodes, 0, 0) {
+        total = entry(
+            words, nodes, item, reader, burned, consumers, places, first, last, tallies, table,
             total,
-        );
-        let alias = stood.alias;
-        if alias != 0 {
-            return alias;
-        }
-        total = stood.rows;
-        children = children.step(nodes).rest;
+        )?;
     }
-    0
+    Ok(())
 }
 
 // The table of an admitted image.
@@ -226,7 +180,7 @@ fn tracked(image: &[u8], head: Image) -> Table
     let mut last = [0u16; Image::NAMES];
     let mut tallies = [0u16; 1533];
     let mut table = [0u16; 2046];
-    let alias = entries(
+    let stopped = entries(
         asset_words,
         nodes,
         &reader,
@@ -238,7 +192,10 @@ fn tracked(image: &[u8], head: Image) -> Table
         &mut tallies,
         &mut table,
     );
-    table[ALIAS] = alias as u16;
+    table[ALIAS] = match stopped {
+        Ok(()) => 0,
+        Err(alias) => alias,
+    };
     table[REFUSED] = 0;
     table
 }

@@ -1,5 +1,5 @@
 -- The walk over the parts of an entry that notes its rows, a part more; and what part p is lent.
-use Prim.Native.Nat.{ℕ, suc, ◌+◌, ◌<◌}
+use Prim.Native.Nat.{ℕ, suc, ◌+◌, ◌*◌, ◌<◌}
 use mathlib.Core.Path.{◌≡◌, refl, ap, ◌∙◌, sym}
 use mathlib.Core.Bool.{Bool, true, false, true≢false}
 use mathlib.Core.List.{List, [], ◌∷◌, ◌++◌}
@@ -9,7 +9,7 @@ use Rattle.image.specs.Pick.{both}
 use Rattle.rules.specs.Sweep.{run, keep, has}
 use Rattle.rules.specs.Tree.{Tree, tree, «let», param_let, peels}
 use Rattle.rules.specs.Vocabulary.{below, rec, only, at_bottom}
-use Rattle.rules.specs.Linear.{is_alias, rule60}
+use Rattle.rules.specs.Linear.{is_alias, is_row, rule60}
 use Rattle.rules.specs.All.{entry_of}
 use Rattle.rules.proofs.Admitted.{admitted}
 use Rattle.rules.proofs.Entries.{in_entry}
@@ -17,7 +17,11 @@ use Rattle.records.specs.Records.{Held}
 use Rattle.records.proofs.Sweep.{run_none, run_on, keep-none}
 use Rattle.nodes.specs.Shown.{tree_of}
 use Rattle.linear_parts.specs.declared.Words.{Words}
-use Rattle.linear_parts.specs.Parts.{row_at, rows_of, rows_before, is60, PartAt}
+use Rattle.linear_parts.specs.Parts.{row_at, rows_of, rows_before, is60, says_row, PartAt, SaysPart}
+use Rattle.linear_parts.specs.declared.Part.{Part}
+use Rattle.linear_parts.specs.declared.Part.TheVariants.{Row}
+use Rattle.linear_parts.proofs.Parts.{part_in}
+use Rattle.linear_parts.proofs.Row.{row-few}
 use Rattle.linear_tracked.specs.Rows.{at60, Rows, Unrowed}
 use Rattle.linear_tracked.proofs.Filled.{rows_as}
 
@@ -48,6 +52,13 @@ part_at {e = e} T a b R = record {
 -- what is seen of it, with its entry
 abbrev pub part_held : {X : Type 0} {nodes : List ℕ} {words : Words} {e p : ℕ} {places first last : List ℕ} (T : Unrowed nodes words e places first last) → e < p → p < (tree_of T.known.view).end e → X → Held X e p (p + 1)
 part_held T a b x = let W = T.known.view in record { seen = x; entries = entry_of (tree_of W); held = λ i l h. in_entry (tree_of W) (admitted W.image W.shown.admitted) i T.is_entry (omega arith) (omega arith) }
+
+-- a part of which it is said that it declares a row does so, and there is room for the row
+pub declares : {nodes : List ℕ} {words : Words} {p : ℕ} {first : List ℕ} {r : Part} → SaysPart nodes words p first r → r ≡ Row → (T : PartAt nodes words p first) → is_row (tree_of T.known.view) p ≡ true
+declares s e T = (s T).0 ∙ ap says_row e
+
+pub room : {nodes : List ℕ} {words : Words} {p n : ℕ} {first : List ℕ} {r : Part} → SaysPart nodes words p first r → r ≡ Row → PartAt nodes words p first → 4 * n < p → n < 511
+room {n = n} s e T l = row-few T.known.view (part_in T) (declares s e T) n l
 
 -- 60 at a part, from the test
 module _ (t : Tree) (e p : ℕ) where

@@ -14,17 +14,11 @@ ghost use Rattle.linear_parts.specs.Parts.{PartAt};
 ghost use Rattle.linear_tracked.specs.Rows.{at60, Unrowed, TakesRow, TakesRows, Placed, Clears, PlaceOf};
 
 use linear_parts::{Part, Words};
-use nodes::{Cursor, LET};
+use nodes::{Children, LET};
 use places::{Note, Places};
 
 // One cell for each of the at most 511 rows of an entry.
 pub type Cells = [u16; 511];
-
-fn wide(x: u16) -> usize
-    ensures { (result ≡ x) × (result < 65536) }
-{
-    x as usize
-}
 
 // A row's number, from 1 on, is noted for the word of node p.
 fn note_row(note: Note, row: usize, nodes: &[u8], p: usize, rows: &mut Places)
@@ -92,18 +86,12 @@ pub fn track(
     ensures rows_bound { (result.rows ≤ 511) × TakesRows nodes.now words entry places.old places.new first.old first.new last.old last.new result.rows }
     ensures adds { Adds (λ (T : Unrowed nodes.now words entry places.old first.old last.old). on (λ t. below t «let» entry (rule60 t entry)) (tree_of T.known.view)) 2048 out.old out.new count result.count }
 {
-    let to = nodes::end(nodes, 0, entry);
     let mut tracked = Tracked { rows: 0, count };
-    let mut children = Cursor {
-        base: 0,
-        at: entry + 1,
-        end: to,
-    };
-    while children.at < children.end {
+    for part in Children::of(nodes, 0, entry) {
         tracked = take_part(
             words,
             nodes,
-            children.at,
+            part,
             entry,
             tracked.rows,
             places,
@@ -112,7 +100,6 @@ pub fn track(
             out,
             tracked.count,
         );
-        children = children.step(nodes).rest;
     }
     tracked
 }
@@ -141,9 +128,7 @@ pub fn untrack(n: usize, nodes: &[u8], places: &Cells, rows: &mut Places)
     requires { Placed nodes.now n places.now }
     ensures { Clears nodes.now n places.now rows.old rows.new }
 {
-    let mut k = 0;
-    while k < n {
-        untrack_row(nodes, wide(places[k]), rows);
-        k += 1;
+    for k in 0..n {
+        untrack_row(nodes, usize::from(places[k]), rows);
     }
 }

@@ -11,6 +11,7 @@ use borrow.Author.Tests.{eq-eqb, ne_eqb}
 use lib.Dec.{eqb}
 use lib.ListN.{length, get_or, set, length-set, length-append}
 use lib.Seq.{get_or-set_same, get_or-set_other}
+use Rattle.std.specs.Prelude.{Option, None, Some}
 use Rattle.image.proofs.Decide.{eq-or-ne}
 use Rattle.rules.specs.Sweep.{also, keep, run, has}
 use Rattle.rules.specs.Tree.{Tree, ident}
@@ -18,8 +19,8 @@ use Rattle.rules.specs.Vocabulary.{alone}
 use Rattle.rules.specs.Linear.{is_counted, related_use}
 use Rattle.records.proofs.Sweep.{run_none, run_on, keep_one}
 use Rattle.nodes.specs.Shown.{In, View, tree_of}
+use Rattle.places.specs.Places.{Places}
 use Rattle.linear_occurrences.specs.declared.Occurrence.{Occurrence}
-use Rattle.linear_occurrences.specs.declared.Occurrence.TheVariants.{Nothing, Consumed}
 use Rattle.linear_occurrences.specs.Counted.{Finding, for_ident}
 use Rattle.linear_rows.specs.Tallies.{Tallied, marks_at, count_at, related_at, related_turn}
 use Rattle.linear_rows.proofs.Tallied.{tallied-as, related-is, related-stays}
@@ -91,14 +92,26 @@ module _ {M U : ℕ → List ℕ} {s : List ℕ} (T : Tallied M U s) (v p : ℕ)
         used long (λ i k. refl)
         (others (3 * (w - 1) + 2) (λ d. omega arith) ∙ T.relateds (w - 1) (omega arith) ∙ sym (related-stays (M (w - 1)) (U (w - 1)) p (λ d. n (sym count-is ∙ d ∙ sym turn_is))))
 
+-- the number that the table has for a word: 0, or one more than a row's
+pub record Given (w r : ℕ) : Type 0 where
+  pub is : w ≡ r
+  pub few : r ≤ 511
+  pub before : (r ≡ 0 → ⊥) → r - 1 < 511
+
+pub given : {nodes : List ℕ} {base : ℕ} {rows : List ℕ} (p : ℕ) {r : ℕ} (T : OnRows nodes base rows) → ((W : View nodes base) (F : List ℕ → ℕ) → Places W.image F rows → r ≡ F ((tree_of W).text p)) → Given (T.row_of ((tree_of T.view).text p)) r
+given p T f =
+    let e = f T.view T.row_of T.noted in
+    let l = T.few ((tree_of T.view).text p) in
+    record { is = sym e; few = omega arith; before = λ z. omega (arith, z) }
+
 -- what a sweep is lent
 abbrev pub on_rows : {nodes : List ℕ} {base : ℕ} {reader : List Bool} {rows : List ℕ} → Using nodes base reader rows → OnRows nodes base rows
 on_rows T = record { view = T.counting.view; row_of = T.row_of; noted = T.noted; few = T.few }
 
 -- the Ident that was found is a word
-pub spoken : {nodes : List ℕ} {base p : ℕ} (W : View nodes base) (e : ℕ) → In nodes base p → (found : Occurrence) → Finding (tree_of W) e p found → Spoken nodes base found
-spoken W e i Nothing F = tt
-spoken W e i (Consumed j c) F = rw F.0 (record { view = W; here = i; carries = inr (Memᴰ.eq_of_singleton F.1.0.kind) })
+pub spoken : {nodes : List ℕ} {base p : ℕ} (W : View nodes base) (e : ℕ) → In nodes base p → (found : Option Occurrence) → Finding (tree_of W) e p found → Spoken nodes base found
+spoken W e i None F = tt
+spoken W e i (Some o) F = rw F.0 (record { view = W; here = i; carries = inr (Memᴰ.eq_of_singleton F.1.0.kind) })
 
 -- two tests one after the other
 pub keep-also : (b : Bool) (q : ℕ → Bool) (f : ℕ → ℕ → List ℕ) (p : ℕ) → keep (also b q p) (λ i. f i i) p ≡ keep b (λ i. keep (q i) (f i) i) p
@@ -115,7 +128,7 @@ module _ (t : Tree) (e : ℕ) (F : List ℕ → ℕ) (base : ℕ) where
   pub uses-start : {M : ℕ → List ℕ} {s : List ℕ} → Tallied M (λ r. []) s → Tallied M (λ r. run (use_at t e F r) base (base - base)) s
   uses-start T = tallied-as (λ r. refl) (λ r. sym (ap (run (use_at t e F r) base) (sub_self base) ∙ run_none (use_at t e F r) base)) T
 
-  pub uses-on : {M : ℕ → List ℕ} {s : List ℕ} {p : ℕ} (found : Occurrence) → base ≤ p → ((f : ℕ → List ℕ) → for_ident found f ≡ keep (also (has (t.kind p) ident) (is_counted t e) p) f p)
+  pub uses-on : {M : ℕ → List ℕ} {s : List ℕ} {p : ℕ} (found : Option Occurrence) → base ≤ p → ((f : ℕ → List ℕ) → for_ident found f ≡ keep (also (has (t.kind p) ident) (is_counted t e) p) f p)
       → Tallied M (λ r. run (use_at t e F r) base (p - base) ++ for_ident found (λ i. on_row F r (t.text i) i)) s → Tallied M (λ r. run (use_at t e F r) base (p + 1 - base)) s
   uses-on {p = p} found l d T =
       tallied-as (λ r. refl)

@@ -1,5 +1,5 @@
 -- Burn marks and counted occurrences on the rows of an entry ("Linear" of document 01): where each one goes, and what is lent to put it there.
-use Rattle.std.specs.Prelude.{ℕ, ◌+◌, ◌-◌, ◌<◌, ◌≤◌, Bool, false, List, [], ◌++◌, eqb}
+use Rattle.std.specs.Prelude.{ℕ, ◌+◌, ◌-◌, ◌<◌, ◌≤◌, Bool, false, List, [], ◌++◌, eqb, Option, None, Some}
 use Rattle.image.specs.Maxima.{max_rows}
 use Rattle.rules.specs.Sweep.{run, keep, has}
 use Rattle.rules.specs.Tree.{Tree, param, burns, ident}
@@ -11,7 +11,6 @@ use Rattle.nodes.specs.Marks.{Marks}
 use Rattle.names.specs.Found.{Numbered}
 use Rattle.places.specs.Places.{Places}
 use Rattle.linear_occurrences.specs.declared.Occurrence.{Occurrence}
-use Rattle.linear_occurrences.specs.declared.Occurrence.TheVariants.{Nothing, Consumed}
 use Rattle.linear_occurrences.specs.Counted.{Counting, for_ident}
 use Rattle.linear_rows.specs.Tallies.{marks_at, count_at, Tallied}
 
@@ -77,12 +76,12 @@ Marks-one T p tallies tallies' =
     (M : ℕ → List ℕ) (x : ℕ) → Tallied M (λ r. []) tallies
     → Tallied (λ r. M r ++ on_row T.row_of r ((tree_of T.view).text p) x) (λ r. []) tallies'
 
-abbrev pub Uses-one : {nodes : List ℕ} {base : ℕ} {rows : List ℕ} → OnRows nodes base rows → Occurrence → List ℕ → List ℕ → Type 0
+abbrev pub Uses-one : {nodes : List ℕ} {base : ℕ} {rows : List ℕ} → OnRows nodes base rows → Option Occurrence → List ℕ → List ℕ → Type 0
 Uses-one T found tallies tallies' =
     (M U : ℕ → List ℕ) → Tallied M U tallies
     → Tallied M (λ r. U r ++ for_ident found (λ i. on_row T.row_of r ((tree_of T.view).text i) i)) tallies'
 
 -- the Ident that was found, if one was, is a word of the part
-abbrev pub Spoken : List ℕ → ℕ → Occurrence → Type 0
-Spoken nodes base Nothing = Unit {0}
-Spoken nodes base (Consumed i c) = Worded nodes base i
+abbrev pub Spoken : List ℕ → ℕ → Option Occurrence → Type 0
+Spoken nodes base None = Unit {0}
+Spoken nodes base (Some o) = Worded nodes base o.ident

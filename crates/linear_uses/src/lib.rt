@@ -11,7 +11,7 @@ ghost use Rattle.linear_uses.specs.Uses.{SpareMarks, SpareCounts, OnRows, Burnin
 
 use linear_occurrences::{Consumers, Occurrence};
 use linear_rows::{COUNT, MARKS, RELATED, Tallies};
-use nodes::{BURNS, Cursor, Marks, PARAM};
+use nodes::{BURNS, Children, Marks, PARAM};
 use places::Places;
 
 // One more in a cell of a row.
@@ -74,14 +74,8 @@ fn burn_marks(
     requires { Burning nodes.now entry asset burned.now rows.now × Head nodes.now 0 entry to × Blank tallies.old }
     ensures { (T : Burning nodes.now entry asset burned.now rows.now) → Tallied (burns_on (tree_of T.on_rows.view) entry T.on_rows.row_of) (λ r. []) tallies.new }
 {
-    let mut children = Cursor {
-        base: 0,
-        at: entry + 1,
-        end: to,
-    };
-    while children.at < children.end {
-        burn_mark(asset, nodes, entry, children.at, burned, rows, tallies);
-        children = children.step(nodes).rest;
+    for part in Children::heads(nodes, entry, to) {
+        burn_mark(asset, nodes, entry, part, burned, rows, tallies);
     }
 }
 
@@ -117,11 +111,17 @@ fn is_related(tallies: &Tallies, row: usize) -> bool
 }
 
 // A counted occurrence, if one was found, on the row that the table notes for its word, and the related word of that row.
-fn use_row(found: Occurrence, nodes: &[u8], base: usize, rows: &Places, tallies: &mut Tallies)
+fn use_row(
+    found: Option<Occurrence>,
+    nodes: &[u8],
+    base: usize,
+    rows: &Places,
+    tallies: &mut Tallies,
+)
     requires { OnRows nodes.now base rows.now × Spoken nodes.now base found × SpareCounts tallies.old }
     ensures { (T : OnRows nodes.now base rows.now) → Uses-one T found tallies.old tallies.new }
 {
-    let Occurrence::Consumed { ident, .. } = found else {
+    let Some(Occurrence { ident, .. }) = found else {
         return;
     };
     let row = places::at(rows, nodes, base, ident);
@@ -149,10 +149,8 @@ pub fn count_uses(
         → Tallied M (uses_on (tree_of T.counting.view) T.counting.entry T.row_of base T.counting.view.upto) tallies.new) }
 {
     let end = base + nodes.len() / 16;
-    let mut p = base;
-    while p < end {
+    for p in base..end {
         let found = linear_occurrences::occurrence_at(nodes, base, p, reader, consumers);
         use_row(found, nodes, base, rows, tallies);
-        p += 1;
     }
 }

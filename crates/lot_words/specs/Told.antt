@@ -1,5 +1,5 @@
 -- What is told of a lot (E3 of document 02): the words of its clauses and uses, and what is lent to tell them.
-use Rattle.std.specs.Prelude.{ℕ, ◌+◌, ◌-◌, ◌<◌, ◌≤◌, ◌≡◌, Bool, List, [], ◌∷◌, eqb, length, get_or}
+use Rattle.std.specs.Prelude.{ℕ, ◌+◌, ◌-◌, ◌<◌, ◌≤◌, ◌≡◌, Bool, List, [], ◌∷◌, eqb, length, get_or, Option, None, Some}
 use Rattle.std.proofs.lemmas.List.Edits.{sets}
 use Rattle.rules.specs.Sweep.{keep}
 use Rattle.rules.specs.Tree.{Tree, entry as entries, burns}
@@ -10,7 +10,6 @@ use Rattle.nodes.specs.Marks.{Marks}
 use Rattle.names.specs.Found.{Numbered}
 use Rattle.places.specs.Places.{Places, first_of}
 use Rattle.linear_occurrences.specs.declared.Occurrence.{Occurrence}
-use Rattle.linear_occurrences.specs.declared.Occurrence.TheVariants.{Nothing, Consumed}
 use Rattle.linear_occurrences.specs.Counted.{Counting, is_reader}
 use Rattle.linear_parts.specs.Parts.{rows_of, first_row, last_row}
 
@@ -65,6 +64,6 @@ row_node t e row = get_or (rows_of e t) (row - 1) 0
 -- What is found
 
 -- an occurrence that was found, as two words, if F notes the row for its word
-abbrev pub found_words : Tree → (List ℕ → ℕ) → ℕ → Occurrence → List ℕ
-found_words t F row Nothing = []
-found_words t F row (Consumed i c) = keep (eqb (F (t.text i)) row) (λ j. j ∷ c ∷ []) i
+abbrev pub found_words : Tree → (List ℕ → ℕ) → ℕ → Option Occurrence → List ℕ
+found_words t F row None = []
+found_words t F row (Some o) = keep (eqb (F (t.text o.ident)) row) (λ j. j ∷ o.consumer ∷ []) o.ident

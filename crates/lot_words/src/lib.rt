@@ -14,7 +14,7 @@ ghost use Rattle.lot_words.specs.Told.{Wrote, AddsWords, Clauses, Marking, Telli
 
 use image::Image;
 use linear_occurrences::{Consumers, Occurrence};
-use nodes::{BURNS, Cursor, Marks, PARAM};
+use nodes::{BURNS, Children, Marks, PARAM};
 use places::{Note, Places};
 
 // An entry behind `count` words, where there is room; it is always counted.
@@ -82,31 +82,15 @@ fn tell_marks(
     ensures { AddsWords (λ (T : Marking nodes.now entry asset clauses.now first.now). each (clause_words (tree_of T.clausal.view) entry) (burns_on (tree_of T.clausal.view) entry T.row_of (row - 1))) 4096 out.old out.new 0 result }
 {
     let mut total = 0;
-    let mut children = Cursor {
-        base: 0,
-        at: entry + 1,
-        end: to,
-    };
-    while children.at < children.end {
-        total = tell_mark(
-            asset,
-            nodes,
-            entry,
-            children.at,
-            row,
-            clauses,
-            first,
-            out,
-            total,
-        );
-        children = children.step(nodes).rest;
+    for part in Children::heads(nodes, entry, to) {
+        total = tell_mark(asset, nodes, entry, part, row, clauses, first, out, total);
     }
     total
 }
 
 // The entry of a counted occurrence, if one was found, and the table notes the row for its word.
 fn tell_use(
-    found: Occurrence,
+    found: Option<Occurrence>,
     nodes: &[u8],
     base: usize,
     row: usize,
@@ -117,7 +101,7 @@ fn tell_use(
     requires { Spoken nodes.now base found × (count < 2 ^ 60) }
     ensures { ((W : View nodes.now base) (F : List ℕ → ℕ) → Places W.image F last.now → Wrote out.old count (found_words (tree_of W) F row found) out.new result) × (result ≤ count + 2) }
 {
-    let Occurrence::Consumed { ident, consumer } = found else {
+    let Some(Occurrence { ident, consumer }) = found else {
         return count;
     };
     if places::at(last, nodes, base, ident) != row {
@@ -142,11 +126,9 @@ fn tell_uses(
 {
     let end = base + nodes.len() / 16;
     let mut total = count;
-    let mut p = base;
-    while p < end {
+    for p in base..end {
         let found = linear_occurrences::occurrence_at(nodes, base, p, reader, consumers);
         total = tell_use(found, nodes, base, row, last, out, total);
-        p += 1;
     }
     total
 }

@@ -5,7 +5,7 @@ use mathlib.Core.Bool.{Bool}
 use mathlib.Core.List.{List}
 use native.Mathlib.Omega.{arith}
 use borrow.Author.Tests.{ne_eqb}
-use lib.ListN.{length}
+use lib.ListN.{length, replicate, length-replicate}
 use Rattle.image.specs.Admit.{refusal, admission_of}
 use Rattle.std.specs.Prelude.{Ok, Err}
 use Rattle.image.specs.declared.Refusal.{Refusal}
@@ -13,7 +13,7 @@ use Rattle.image.specs.Refusals.{number_of}
 use Rattle.image.proofs.Refusals.{known, positive, below-nine}
 use Rattle.image.proofs.Verdict.{refused-is}
 use Rattle.rules.specs.Tree.{Tree, tree}
-use Rattle.rules.specs.Words.{Q_Asset}
+use Rattle.rules.specs.Words.{Q_Asset, split, mint}
 use Rattle.rules.specs.Linear.{place_of}
 use Rattle.rules.proofs.Linear.{tells-is_row, row-so, row-kind, row_below}
 use Rattle.nodes.specs.Shown.{View, tree_of}
@@ -23,7 +23,13 @@ use Rattle.names.specs.Found.{Numbered}
 use Rattle.linear_occurrences.specs.Counted.{is_reader}
 use Rattle.linear_parts.specs.Parts.{rows_of}
 use Rattle.linear_parts.proofs.Lists.{row_at, at_row}
-use Rattle.linear_tracked.specs.Rows.{Rows}
+use Rattle.linear_tracked.specs.Rows.{Rows, Unrowed}
+use Rattle.linear_tracked.proofs.Filled.{rows_start}
+use Rattle.linear.specs.Seen.{LookedWords}
+use Rattle.names.specs.declared.Words.{Words as AllWords}
+use Rattle.names.specs.Spelled.{WordsOf}
+use Rattle.places.proofs.Noting.{places-none}
+use Rattle.linear_parts.specs.declared.Words.{Words as Words₃}
 use Rattle.reasons.specs.Reasons.{TrackedAt}
 use Rattle.reasons.specs.Compute.{reasons}
 use Rattle.reasons.specs.Answer.{why_told, why_answer}
@@ -33,53 +39,68 @@ use Rattle.reasons.proofs.Found.{image-refused, no_lot, too_short, all_told}
 use Rattle.why.specs.declared.Untold.{Untold}
 use Rattle.why.specs.declared.Untold.TheVariants as untold
 use Rattle.lot_words.specs.Told.{Wrote, Rowed, row_node}
-use Rattle.why.specs.Sought.{EntryAt, RowAt}
+use Rattle.why.specs.Sought.{NoEntryAt, EntryAt, NoRowAt, RowAt}
 use Rattle.why.specs.Face.{Explained, untold_by, untold_of, Explains}
 
 -- Which row
 
-module _ {nodes : List ℕ} {place e : ℕ} (W : View nodes 0) (A : EntryAt W place e) where
+-- no entry holds the place
+pub no-entry : {nodes : List ℕ} {place : ℕ} (W : View nodes 0) → NoEntryAt W place → NoLot (tree_of W) place
+no-entry {place = place} W n f x r = let h = holds-place W.image place f x W.shown.admitted r in n f r.0 h.0 h.1
+
+module _ {nodes : List ℕ} {place e : ℕ} (W : View nodes 0) (A : EntryAt W place e) {n : ℕ} {places first last : List ℕ} (R : Rows W.image (rows_of e (tree_of W)) n places first last) where
   abbrev t : Tree
   t = tree_of W
 
-  -- no entry holds the place
-  pub no-entry : e ≡ 0 → NoLot t place
-  no-entry z f x r = let h = holds-place W.image place f x W.shown.admitted r in A.none z f r.0 h.0 h.1
+  -- no row of the entry stands there
+  pub no_row : NoRowAt n places place → NoLot t place
+  no_row q f x r =
+      let h = A.holds in
+      let d = held_by W.image place f x W.shown.admitted r e A.is h.0 h.1 in
+      let k = at_row t e x (rw d at (row_below t f x r.1)) ((tells-is_row t x).back (row-kind t f x r.1)) in
+      let g = k.1 in
+      let c = R.count in
+      q k.0 (omega arith) (R.place_of k.0 (omega arith) ∙ ap (place_of t) k.2 ∙ sym r.2)
 
-  module _ (z : 0 < e) {n row : ℕ} {places first last : List ℕ} (R : Rows W.image (rows_of e t) n places first last) (F : RowAt n places place row) where
-    -- no row of the entry stands there
-    pub no_row : row ≡ 0 → NoLot t place
-    no_row q f x r =
-        let h = A.holds z in
-        let d = held_by W.image place f x W.shown.admitted r e (A.is z) h.0 h.1 in
-        let k = at_row t e x (rw d at (row_below t f x r.1)) ((tells-is_row t x).back (row-kind t f x r.1)) in
-        let g = k.1 in
-        let c = R.count in
-        F.none q k.0 (omega arith) (R.place_of k.0 (omega arith) ∙ ap (place_of t) k.2 ∙ sym r.2)
-
-    -- one does
+  -- one does
+  module _ {row : ℕ} (F : RowAt n places place row) where
     pub in_rows : row ≤ length (rows_of e t)
     in_rows = let c = R.count in let f = F.few in omega arith
 
-    pub its-row : 0 < row → TrackedAt t place e (row_node t e row)
-    its-row l =
+    pub its-row : TrackedAt t place e (row_node t e row)
+    its-row =
         let c = R.count in
         let f = F.few in
+        let l = F.after in
         let k = row_at t e (row - 1) (omega arith) in
-        (A.is z, row-so t e (row_node t e row) k.0 ((tells-is_row t (row_node t e row)).so k.1), sym (F.is l) ∙ R.place_of (row - 1) (omega arith))
+        (A.is, row-so t e (row_node t e row) k.0 ((tells-is_row t (row_node t e row)).so k.1), sym F.is ∙ R.place_of (row - 1) (omega arith))
 
     -- and so it can be told
-    abbrev pub rowed-of : {asset : ℕ} {reader : List Bool} → Numbered W.image Q_Asset asset → Marks W.image is_reader reader → 0 < row → Rowed nodes e row asset reader first last
-    rowed-of N M l = record {
+    abbrev pub rowed-of : {asset : ℕ} {reader : List Bool} → Numbered W.image Q_Asset asset → Marks W.image is_reader reader → Rowed nodes e row asset reader first last
+    rowed-of N M = record {
       view = W;
-      here = A.here z;
-      is_entry = A.is z;
+      here = A.here;
+      is_entry = A.is;
       asset_number = N;
       reader_marks = M;
       first_rows = R.first_rows;
       last_rows = R.last_rows;
-      positive = l;
+      positive = F.after;
       in_rows = in_rows;
+    }
+
+-- what is lent to track the rows of the entry that holds the place
+abbrev pub unrowed-of : {nodes : List ℕ} {all : AllWords} {words : Words₃} {place e : ℕ} (T : LookedWords nodes all) → EntryAt T.view place e
+    → ((s : List ℕ) → WordsOf s all → Numbered s Q_Asset words.asset × Numbered s split words.split × Numbered s mint words.mint) → Unrowed nodes words e (replicate 511 0) (replicate 1024 0) (replicate 1024 0)
+unrowed-of T A f =
+    let s = T.view.image in
+    let a = T.view.shown.admitted in
+    let N = f s T.words_are in
+    record {
+      known = record { view = T.view; asset_number = N.0; split_number = N.1; mint_number = N.2 };
+      is_entry = A.is;
+      here = A.here;
+      rows = rows_start (length-replicate {A = ℕ} 511 0) (places-none s a) (places-none s a);
     }
 
 -- What is answered

@@ -15,7 +15,7 @@ use Rattle.rules.specs.Vocabulary.{Below}
 use Rattle.rules.proofs.Reflect.{Tells, tells_both, tells-eqb, tells-ltb, tells-has}
 use Rattle.nodes.specs.Shown.{View, In, tree_of}
 use Rattle.nodes.proofs.Shapes.{all_in, skips-items}
-use Rattle.why.specs.Sought.{EntryAt}
+use Rattle.why.specs.Sought.{NoEntryAt, EntryAt}
 
 -- no Entry before node q holds the place
 abbrev pub NoneHolds : Tree → ℕ → ℕ → Type 0
@@ -34,12 +34,7 @@ module _ {nodes : List ℕ} {place p q : ℕ} (W : View nodes 0) (z : 0 < p) (i 
   held_by d u =
       let f = (tells-holds (tree_of W) place p q).so (sym a ∙ d) in
       let g = f.1.1 in
-      record {
-        none = λ e. absurd (omega arith);
-        is = λ l. record { after = z; inside = u; kind = Memᴰ.head f.0 };
-        here = λ l. i;
-        holds = λ l. (f.1.0, omega arith);
-      }
+      record { is = record { after = z; inside = u; kind = Memᴰ.head f.0 }; here = i; holds = (f.1.0, omega arith) }
 
   -- it is not
   pub none-holds : b ≡ false → NoneHolds (tree_of W) place p → NoneHolds (tree_of W) place q
@@ -54,10 +49,5 @@ module _ {nodes : List ℕ} {place p q : ℕ} (W : View nodes 0) (z : 0 < p) (i 
       (eq-or-ne e p))
       (lt-or-ge e p)
 
-pub none-held : {nodes : List ℕ} {place q : ℕ} (W : View nodes 0) → (tree_of W).end 0 ≤ q → NoneHolds (tree_of W) place q → EntryAt W place 0
-none-held W l n = record {
-  none = λ z e E u v. let h = E.inside in n e E (omega arith) u v;
-  is = λ z. absurd (omega arith);
-  here = λ z. absurd (omega arith);
-  holds = λ z. absurd (omega arith);
-}
+pub none-held : {nodes : List ℕ} {place q : ℕ} (W : View nodes 0) → (tree_of W).end 0 ≤ q → NoneHolds (tree_of W) place q → NoEntryAt W place
+none-held W l n = λ e E u v. let h = E.inside in n e E (omega arith) u v

@@ -1,20 +1,20 @@
 // Why a lot is refused (E3 of document 02): any bytes and any place in, the Burns clauses and the counted occurrences of the lot there out, two words each. The public function asks nothing of its caller.
 #![tactic(auto)]
 
-ghost use Rattle.std.specs.Prelude.{◌≡◌, ℕ, ◌<◌, ◌≤◌, ltb, eqb};
+ghost use Rattle.std.specs.Prelude.{◌≡◌, ℕ, ◌≤◌, ltb, eqb, MatchOption};
 ghost use Rattle.image.specs.Pick.{both};
 ghost use Rattle.nodes.specs.Shown.{View, In, Admitted, tree_of};
 ghost use Rattle.linear.specs.Seen.{LookedWords};
 ghost use Rattle.reasons.specs.Reasons.{TrackedAt};
 ghost use Rattle.lot_words.specs.Told.{Rowed, row_node};
-ghost use Rattle.why.specs.Sought.{EntryAt, RowAt};
+ghost use Rattle.why.specs.Sought.{NoEntryAt, EntryAt, NoRowAt, RowAt};
 ghost use Rattle.why.specs.declared.Untold.TheVariants.{Image};
 ghost use Rattle.why.specs.Face.{Explains, untold_by};
 
 pub use image::Refusal;
 use image::Image;
 use linear_tracked::Cells;
-use nodes::{Cursor, ENTRY, Marks};
+use nodes::{Children, ENTRY, Marks};
 use places::Places;
 
 // Why there are no words: the image is refused, no lot stands at the place, refusal 13, or the buffer is too short, refusal 10.
@@ -71,25 +71,17 @@ fn answer_row(
     Ok(lot_words::tell_row(asset, nodes, entry, row, reader, first, last, out))
 }
 
-fn wide(x: u16) -> usize
-    ensures { result ≡ x }
-{
-    x as usize
-}
-
-// The number, from 1 on, of the row at this place; 0 where none of the n rows stands there.
-fn row_at(n: usize, places: &Cells, place: usize) -> usize
+// The number, from 1 on, of the row at this place, if one of the n rows stands there.
+fn row_at(n: usize, places: &Cells, place: usize) -> Option<usize>
     requires { n ≤ 511 }
-    ensures { RowAt n places.now place result }
+    ensures { MatchOption result (NoRowAt n places.now place) (λ row. RowAt n places.now place row) }
 {
-    let mut row = 0;
-    while row < n {
-        if wide(places[row]) == place {
-            return row + 1;
+    for row in 0..n {
+        if usize::from(places[row]) == place {
+            return Some(row + 1);
         }
-        row += 1;
     }
-    0
+    None
 }
 
 // What is answered of a place that an entry holds: 13 where no row of the entry stands there.
@@ -100,7 +92,7 @@ fn answer_entry(
     place: usize,
     out: &mut [u16],
 ) -> Explained
-    requires { ((T : LookedWords nodes.now words) × EntryAt T.view place entry) × (0 < entry) }
+    requires { (T : LookedWords nodes.now words) × EntryAt T.view place entry }
     ensures { (T : LookedWords nodes.now words) → EntryAt T.view place entry → Explains T.view.image place out.old result out.new }
 {
     let asset_words = linear_parts::asset_words(words);
@@ -119,10 +111,9 @@ fn answer_entry(
         &mut none,
         0,
     );
-    let row = row_at(tracked.rows, &places, place);
-    if row == 0 {
+    let Some(row) = row_at(tracked.rows, &places, place) else {
         return Err(Untold::NoLot);
-    }
+    };
     let mut reader = [false; Image::NAMES];
     linear_occurrences::mark_readers(words, &mut reader);
     answer_row(asset, nodes, entry, row, &reader, &first, &last, out)
@@ -142,25 +133,17 @@ fn holds(nodes: &[u8], item: usize, end: usize, place: usize) -> bool
     place < end
 }
 
-// The Entry that holds this place; 0 where none does.
-fn entry_at(nodes: &[u8], place: usize) -> usize
+// The Entry that holds this place, if one does.
+fn entry_at(nodes: &[u8], place: usize) -> Option<usize>
     requires { View nodes.now 0 × In nodes.now 0 0 }
-    ensures { (W : View nodes.now 0) → EntryAt W place result }
+    ensures { (W : View nodes.now 0) → MatchOption result (NoEntryAt W place) (λ entry. EntryAt W place entry) }
 {
-    let to = nodes::end(nodes, 0, 0);
-    let mut children = Cursor {
-        base: 0,
-        at: 1,
-        end: to,
-    };
-    while children.at < children.end {
-        let step = children.step(nodes);
-        if holds(nodes, step.child, step.rest.at, place) {
-            return step.child;
+    for item in Children::of(nodes, 0, 0) {
+        if holds(nodes, item, nodes::end(nodes, 0, item), place) {
+            return Some(item);
         }
-        children = step.rest;
     }
-    0
+    None
 }
 
 // What is answered of an admitted image.
@@ -169,10 +152,9 @@ fn answer(image: &[u8], head: Image, place: usize, out: &mut [u16]) -> Explained
     ensures { Explains image.now place out.old result out.new }
 {
     let nodes = nodes::area(image, head);
-    let entry = entry_at(nodes, place);
-    if entry == 0 {
+    let Some(entry) = entry_at(nodes, place) else {
         return Err(Untold::NoLot);
-    }
+    };
     let words = names::find_words(image, head);
     answer_entry(words, nodes, entry, place, out)
 }

@@ -1,7 +1,6 @@
 -- `entries` meets its contract: a walk from item to item, with clean tables between them.
 use borrow.Author.Rules.{rules}
 use native.Mathlib.Omega.{arith}
-use Prim.Native.Nat.{◌<◌, ◌≤◌}
 use mathlib.Core.Path.{refl}
 use Rattle.rules.specs.Sweep.{has}
 use Rattle.rules.specs.Tree.{entry}
@@ -11,37 +10,53 @@ use Rattle.records.proofs.Sweep.{sweep-starts, sweep-on, sweep-long, swept, run-
 use Rattle.nodes.specs.Shown.{tree_of}
 use Rattle.nodes.proofs.Spans.{span_below, child-on}
 use Rattle.nodes.proofs.Shapes.{all_in, skips-items}
-use Rattle.nodes.proofs.Cursors.{before_last, past-last, still-over, on-to}
+use Rattle.nodes.proofs.Iterated.{begun, at-first, ends-at, turn, ended}
 use Rattle.linear.proofs.Fresh.{cleaned}
 use Rattle.linear.proofs.entries.Goals as goal
 
-pub loop-children-init : goal.loop-children-init
-loop-children-init c = let d = c.requires in let T = d.0 in let S = span_below T.known.view T.root (c.end-to.ensures T.known.view) in (record { part = refl; last = refl }, S, sweep-starts S.order, λ T. (T.clean, d.1))
+pub loop-item-init : goal.loop-item-init
+loop-item-init c =
+    let d = c.requires in
+    let T = d.0 in
+    let e = c.into_iter-item-iterator.ensures.into_iter_gives in
+    let b = c.of-item-items.ensures in
+    let at = at-first e b.0 in
+    let S = span_below T.known.view T.root (ends-at 0 e b.1 T.known.view) in
+    (begun e b.0, S, rw at (sweep-starts S.order), λ T. (T.clean, rw at d.1))
 
 pub entry-total-requires : goal.entry-total-requires
-entry-total-requires c = let T = c.requires.0 in let i = c.loop-children.invariant in (cleaned T (i.3 T).0, search rules, i.2.low, (i.3 T).1, search rules)
+entry-total-requires c =
+    let T = c.requires.0 in
+    let i = c.loop-item.invariant in
+    let t = turn {t = c.next.new.self} i.0 c.in-Some.ensures.steps in
+    let is = t.is in
+    let l = i.2.low in
+    let q = rw (← is) at (i.3 T) in
+    (cleaned T q.0, t.here, omega arith, q.1, search rules)
 
-pub loop-children-smaller : goal.loop-children-smaller
-loop-children-smaller c =
-    let moved : (c.loop-children.children.at < c.step.result.rest.at) × (c.step.result.rest.at ≤ c.end-to.result) = let T = c.requires.0 in let W = T.known.view in let i = c.loop-children.invariant in child-on W T.root (c.end-to.ensures W) i.2.low (before_last i.0 c.loop-children-test.true) (on-to i.0 c.step.ensures W) in
-    let m = moved in omega arith
-
-pub loop-children-preserved : goal.loop-children-preserved
+pub loop-item-preserved : goal.loop-item-preserved
 unfolding all_in has
-loop-children-preserved c =
-    let moved : (c.loop-children.children.at < c.step.result.rest.at) × (c.step.result.rest.at ≤ c.end-to.result) = let T = c.requires.0 in let W = T.known.view in let i = c.loop-children.invariant in child-on W T.root (c.end-to.ensures W) i.2.low (before_last i.0 c.loop-children-test.true) (on-to i.0 c.step.ensures W) in
-    let i = c.loop-children.invariant in let m = moved in let on = on-to i.0 c.step.ensures in let r = c.entry-total.ensures in (
-      still-over i.0 c.step.ensures,
+loop-item-preserved c =
+    let i = c.loop-item.invariant in
+    let t = turn i.0 c.in-Some.ensures.steps in
+    let S = rw (← t.is) at i.2 in
+    let q = rw (← t.is) at i.3 in
+    let W = c.requires.0.known.view in
+    let to = ends-at 0 c.into_iter-item-iterator.ensures.into_iter_gives c.of-item-items.ensures.1 in
+    let m = child-on W c.requires.0.root (to W) S.low t.before (t.moved W) in
+    let r = c.entry-total.ensures in (
+      t.still,
       i.1,
-      sweep-on i.2 (added-by (λ T. cleaned T (i.3 T).0) (λ T. refl) r.adds) m.0 m.1 (λ T j a d. keep-none _ j (skips-items entry refl T.known.view (search rules) i.2.low (on T.known.view) j a d)),
-      λ T. let q = r.cleans_rows (cleaned T (i.3 T).0) in let e = on T.known.view in (q.0, rw e q.1),
+      sweep-on S (added-by (λ T. cleaned T (q T).0) (λ T. refl) r.adds) m.0 m.1 (λ T j a d. keep-none _ j (skips-items entry refl T.known.view t.here S.low (t.moved T.known.view) j a d)),
+      λ T. let k = r.cleans_rows (cleaned T (q T).0) in let e = t.moved T.known.view in (k.0, rw e k.1),
     )
 
 pub shape_of-out : goal.shape_of-out
-shape_of-out c = sweep-long c.loop-children.invariant.2 c.requires.0
+shape_of-out c = sweep-long c.loop-item.invariant.2 c.requires.0
 
 pub returns : goal.returns
 unfolding linear
 returns c =
-    let i = c.loop-children.invariant in
-    swept i.2 (past-last i.0 c.loop-children-test.false) (λ T. let t = tree_of T.known.view in run-below t entry (linear_entry t) 0 1 _ refl (c.end-to.ensures T.known.view)) (let u = i.1.under in omega arith)
+    let i = c.loop-item.invariant in
+    let to = ends-at 0 c.into_iter-item-iterator.ensures.into_iter_gives c.of-item-items.ensures.1 in
+    swept i.2 (ended i.0 c.in-None.ensures.steps.3) (λ T. let t = tree_of T.known.view in run-below t entry (linear_entry t) 0 1 _ refl (to T.known.view)) (let u = i.1.under in omega arith)

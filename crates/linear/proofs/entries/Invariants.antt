@@ -1,18 +1,15 @@
 -- `entries` meets its contract: a walk from item to item, with clean tables between them.
-use Prim.Native.Nat.{◌-◌}
 use Rattle.records.proofs.Sweep.{Sweeping}
 use Rattle.nodes.specs.Shown.{tree_of}
 use Rattle.nodes.proofs.Spans.{Span}
 use Rattle.nodes.proofs.Steps.{in_tree}
-use Rattle.nodes.proofs.Cursors.{Over}
+use Rattle.nodes.proofs.Iterated.{Over}
 use Rattle.linear_occurrences.specs.Counted.{Clear}
 use Rattle.linear.specs.Seen.{LinearTables, Clean, item_linear}
 use Rattle.linear.proofs.entries.Given as goal
 
-abbrev pub invariant-loop-children : goal.invariant-loop-children
-invariant-loop-children l =
-    Over 0 l.to l.children × Span l.nodes 0 1 l.to × Sweeping (in_tree (λ (T : LinearTables l.nodes l.words l.reader l.initial.burned l.initial.places l.initial.first l.initial.last l.initial.tallies). T.known.view)) (λ T i. item_linear i (tree_of T.known.view)) 1 l.to 3070 l.initial.out 0 l.out l.total l.children.at
-    × ((T : LinearTables l.nodes l.words l.reader l.initial.burned l.initial.places l.initial.first l.initial.last l.initial.tallies) → Clean T.known.view.image l.burned l.places l.first l.last l.tallies × Clear l.children.at l.consumers)
-
-abbrev pub decreases-loop-children : goal.decreases-loop-children
-decreases-loop-children l = l.to - l.children.at
+abbrev pub invariant-loop-item : goal.invariant-loop-item
+invariant-loop-item l =
+    let s = l.initial.item-iterator in
+    Over l.nodes 0 s.to l.item-iterator × Span l.nodes 0 1 s.to × Sweeping (in_tree (λ (T : LinearTables l.nodes l.words l.reader l.initial.burned l.initial.places l.initial.first l.initial.last l.initial.tallies). T.known.view)) (λ T i. item_linear i (tree_of T.known.view)) 1 s.to 3070 l.initial.out 0 l.out l.total l.item-iterator.at
+    × ((T : LinearTables l.nodes l.words l.reader l.initial.burned l.initial.places l.initial.first l.initial.last l.initial.tallies) → Clean T.known.view.image l.burned l.places l.first l.last l.tallies × Clear l.item-iterator.at l.consumers)

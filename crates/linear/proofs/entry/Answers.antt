@@ -11,7 +11,7 @@ use Rattle.linear.specs.Seen.{LinearTables}
 use Rattle.linear_tracked.specs.Rows.{Unrowed}
 use Rattle.linear.proofs.Judged.{blanked}
 use Rattle.linear_occurrences.proofs.Ahead.{clear_later}
-use Rattle.linear.proofs.Between.{unrowed-of, placed_of, filled_of, item-laid}
+use Rattle.linear.proofs.Between.{kind-of, unrowed-of, placed_of, filled_of, item-laid}
 use Rattle.linear.proofs.entry.Goals as goal
 
 pub returns-then-kind-ne-ENTRY : goal.returns-then-kind-ne-ENTRY
@@ -19,17 +19,13 @@ returns-then-kind-ne-ENTRY c = record { adds = added-nothing (λ T. keep-none _ 
 
 pub track-tracked-requires : goal.track-tracked-requires
 track-tracked-requires c =
-    let Tables : Type 0 = let g = c.args in LinearTables g.nodes.now g.words g.reader.now g.burned.now g.places.now g.first.now g.last.now g.tallies.now in
-    let is_entry : (T : Tables) → (tree_of T.known.view).kind c.args.item ≡ 9 = λ T. sym (c.kind.ensures T.known.view) ∙ c.if-kind-ne-ENTRY.false in
-    let unrowed : (T : Tables) → Unrowed c.args.nodes.now c.args.words c.args.item c.args.places.now c.args.first.now c.args.last.now = λ T. unrowed-of T (is_entry T) c.requires.1 c.requires.2 in
-    (unrowed c.requires.0, search rules)
+    let k = kind-of c.args.item c.kind.ensures c.if-kind-ne-ENTRY.false in
+    let T = c.requires.0 in (unrowed-of T (k T.known.view) c.requires.1 c.requires.2, search rules)
 
 pub tally-requires : goal.tally-requires
 tally-requires c =
-    let Tables : Type 0 = let g = c.args in LinearTables g.nodes.now g.words g.reader.now g.burned.now g.places.now g.first.now g.last.now g.tallies.now in
-    let is_entry : (T : Tables) → (tree_of T.known.view).kind c.args.item ≡ 9 = λ T. sym (c.kind.ensures T.known.view) ∙ c.if-kind-ne-ENTRY.false in
-    let unrowed : (T : Tables) → Unrowed c.args.nodes.now c.args.words c.args.item c.args.places.now c.args.first.now c.args.last.now = λ T. unrowed-of T (is_entry T) c.requires.1 c.requires.2 in
-    let b = c.requires in (filled_of b.0 (is_entry b.0) (c.track-tracked.ensures.rows_bound.1 (unrowed b.0)).1, b.1, b.2, b.3)
+    let k = kind-of c.args.item c.kind.ensures c.if-kind-ne-ENTRY.false in
+    let b = c.requires in (filled_of b.0 (k b.0.known.view) (c.track-tracked.ensures.rows_bound.1 (unrowed-of b.0 (k b.0.known.view) b.1 b.2)).1, b.1, b.2, b.3)
 
 pub judge-total-requires : goal.judge-total-requires
 judge-total-requires c =
@@ -38,32 +34,26 @@ judge-total-requires c =
 
 pub untrack-requires : goal.untrack-requires
 untrack-requires c =
-    let Tables : Type 0 = let g = c.args in LinearTables g.nodes.now g.words g.reader.now g.burned.now g.places.now g.first.now g.last.now g.tallies.now in
-    let is_entry : (T : Tables) → (tree_of T.known.view).kind c.args.item ≡ 9 = λ T. sym (c.kind.ensures T.known.view) ∙ c.if-kind-ne-ENTRY.false in
-    let unrowed : (T : Tables) → Unrowed c.args.nodes.now c.args.words c.args.item c.args.places.now c.args.first.now c.args.last.now = λ T. unrowed-of T (is_entry T) c.requires.1 c.requires.2 in
-    let b = c.requires in placed_of b.0 b.1 (c.track-tracked.ensures.rows_bound.1 (unrowed b.0)).1
+    let k = kind-of c.args.item c.kind.ensures c.if-kind-ne-ENTRY.false in
+    let b = c.requires in placed_of b.0 b.1 (c.track-tracked.ensures.rows_bound.1 (unrowed-of b.0 (k b.0.known.view) b.1 b.2)).1
 
 pub untrack-requires-2 : goal.untrack-requires-2
 untrack-requires-2 c =
-    let Tables : Type 0 = let g = c.args in LinearTables g.nodes.now g.words g.reader.now g.burned.now g.places.now g.first.now g.last.now g.tallies.now in
-    let is_entry : (T : Tables) → (tree_of T.known.view).kind c.args.item ≡ 9 = λ T. sym (c.kind.ensures T.known.view) ∙ c.if-kind-ne-ENTRY.false in
-    let unrowed : (T : Tables) → Unrowed c.args.nodes.now c.args.words c.args.item c.args.places.now c.args.first.now c.args.last.now = λ T. unrowed-of T (is_entry T) c.requires.1 c.requires.2 in
-    let b = c.requires in placed_of b.0 b.1 (c.track-tracked.ensures.rows_bound.1 (unrowed b.0)).1
+    let k = kind-of c.args.item c.kind.ensures c.if-kind-ne-ENTRY.false in
+    let b = c.requires in placed_of b.0 b.1 (c.track-tracked.ensures.rows_bound.1 (unrowed-of b.0 (k b.0.known.view) b.1 b.2)).1
 
 pub returns : goal.returns
 returns c =
-    let Tables : Type 0 = let g = c.args in LinearTables g.nodes.now g.words g.reader.now g.burned.now g.places.now g.first.now g.last.now g.tallies.now in
-    let is_entry : (T : Tables) → (tree_of T.known.view).kind c.args.item ≡ 9 = λ T. sym (c.kind.ensures T.known.view) ∙ c.if-kind-ne-ENTRY.false in
-    let unrowed : (T : Tables) → Unrowed c.args.nodes.now c.args.words c.args.item c.args.places.now c.args.first.now c.args.last.now = λ T. unrowed-of T (is_entry T) c.requires.1 c.requires.2 in
+    let k = kind-of c.args.item c.kind.ensures c.if-kind-ne-ENTRY.false in
     let b = c.requires in let e = c.args.item in
     let r = c.track-tracked.ensures.rows_bound.1 in let a = c.track-tracked.ensures.adds in let y = c.tally.ensures in let j = c.judge-total.ensures in record {
       adds = record {
-        laid = λ T. let R = (r (unrowed T)).1 in let h = is_entry T in item-laid T h R b.1 b.2 (y (filled_of T h R)).2 (a.laid (unrowed T)) (j.adds.laid tt);
+        laid = λ T. let R = (r (unrowed-of T (k T.known.view) b.1 b.2)).1 in let h = k T.known.view in item-laid T h R b.1 b.2 (y (filled_of T h R)).2 (a.laid (unrowed-of T (k T.known.view) b.1 b.2)) (j.adds.laid tt);
         few = let f = a.few in let g = j.adds.few in omega arith;
       };
       cleans_rows = λ T.
-          let R = (r (unrowed T)).1 in
-          let G = y (filled_of T (is_entry T) R) in (
+          let R = (r (unrowed-of T (k T.known.view) b.1 b.2)).1 in
+          let G = y (filled_of T (k T.known.view) R) in (
             record {
               size = R.size;
               burned_none = G.0;

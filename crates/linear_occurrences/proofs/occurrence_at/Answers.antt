@@ -1,4 +1,5 @@
 -- `occurrence_at` meets its contract: an Ident, an Assign, a Call, or none of them.
+use borrow.Author.Rules.{rules}
 use native.Mathlib.Omega.{arith}
 use mathlib.Core.Path.{◌≡◌, ◌∙◌, sym, ap}
 use Prim.Native.Nat.{ℕ, ◌<◌}
@@ -68,4 +69,6 @@ returns-else-is_field c =
     }
 
 pub returns-in_default : goal.returns-in_default
-returns-in_default c = record { finds = λ T A. found_none T (λ e. c.in_default.in_default-own.rest.0.0.1 (c.kind.ensures T.view ∙ e)); takes_its_own = λ T P C. let k = c.kind.ensures T.view in cells-none _ C (other-takes (tree_of T.view) _ (λ e. c.in_default.in_default-own.rest.0.1 (k ∙ e)) (λ e. c.in_default.in_default-own.rest.1 (k ∙ e))) }
+returns-in_default c =
+    let other : (n : ℕ) → (c.kind.result ≡ n → ⊥) → (W : View c.args.nodes.now c.args.base) → (tree_of W).kind c.args.p ≡ n → ⊥ = λ n o W e. o (c.kind.ensures W ∙ e) in
+    record { finds = λ T A. found_none T (other 35 (search rules) T.view); takes_its_own = λ T P C. cells-none _ C (other-takes (tree_of T.view) _ (other 27 (search rules) T.view) (other 43 (search rules) T.view)) }

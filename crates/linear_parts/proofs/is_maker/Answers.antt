@@ -1,4 +1,5 @@
 -- `is_maker` meets its contract: a Field, an Ident or neither.
+use borrow.Author.Rules.{rules}
 use mathlib.Core.Path.{◌≡◌, ◌∙◌, sym, ap}
 use mathlib.Core.Logic.{inr}
 use Prim.Native.Nat.{ℕ}
@@ -37,5 +38,5 @@ pub returns-in_default : goal.returns-in_default
 returns-in_default c =
     λ T.
     let W = T.view in
-    let k = c.kind.ensures W in
-    maker-other (tree_of W) _ (λ e. c.in_default.in_default-own.rest.0.1 (k ∙ e)) (λ e. c.in_default.in_default-own.rest.1 (k ∙ e))
+    let other : (n : ℕ) → (c.kind.result ≡ n → ⊥) → (tree_of W).kind c.args.x ≡ n → ⊥ = λ n o e. o (c.kind.ensures W ∙ e) in
+    maker-other (tree_of W) _ (other 42 (search rules)) (other 35 (search rules))

@@ -1,7 +1,8 @@
 -- `let_part` meets its contract: no value, a Call, an Ident, or another.
+use borrow.Author.Rules.{rules}
 use native.Mathlib.Omega.{arith}
-use Prim.Native.Nat.{◌+◌, ◌<◌}
-use mathlib.Core.Path.{sym, ap, ◌∙◌}
+use Prim.Native.Nat.{ℕ, ◌+◌, ◌<◌}
+use mathlib.Core.Path.{◌≡◌, sym, ap, ◌∙◌}
 use mathlib.Core.Bool.{not}
 use mathlib.Core.Logic.{inr}
 use borrow.Author.Tests.{eq-eqb, ne_eqb}
@@ -77,4 +78,6 @@ returns-else-at-eq0 c =
 pub returns-in_default : goal.returns-in_default
 returns-in_default c =
     let under : (W : View c.args.nodes.now 0) → c.down-value.result < (tree_of W).end (c.args.p + 2) = λ W. let e = c.end.ensures W in let h = c.if-end-value.false in omega arith in
-    λ T. let W = T.known.view in let k = c.kind.ensures W in let-other (tree_of W) T.entry _ (c.requires.1 W) _ (c.down-value.ensures.1 W) (under W) (λ e. c.in_default.in_default-own.rest.0.1 (k ∙ e)) (λ e. c.in_default.in_default-own.rest.1 (k ∙ e))
+    λ T. let W = T.known.view in 
+    let other : (n : ℕ) → (c.kind.result ≡ n → ⊥) → (tree_of W).kind c.down-value.result ≡ n → ⊥ = λ n o e. o (c.kind.ensures W ∙ e) in
+    let-other (tree_of W) T.entry _ (c.requires.1 W) _ (c.down-value.ensures.1 W) (under W) (other 43 (search rules)) (other 35 (search rules))

@@ -1,5 +1,7 @@
 -- `part_of` meets its contract: a Param and the Name of its Type, a Let, or neither.
+use borrow.Author.Rules.{rules}
 use native.Mathlib.Omega.{arith}
+use Prim.Native.Nat.{ℕ}
 use mathlib.Core.Path.{◌≡◌, sym, ◌∙◌}
 use Rattle.nodes.specs.Shown.{View, tree_of}
 use Rattle.linear_parts.proofs.Parts.{type_name}
@@ -35,4 +37,6 @@ pub returns-in-25 : goal.returns-in-25
 returns-in-25 c = c.let_part.ensures
 
 pub returns-in_default : goal.returns-in_default
-returns-in_default c = λ T. let W = T.known.view in let k = c.kind.ensures W in part-other (tree_of W) T.entry _ (λ e. c.in_default.in_default-own.rest.0.1 (k ∙ e)) (λ e. c.in_default.in_default-own.rest.1 (k ∙ e))
+returns-in_default c = λ T. let W = T.known.view in 
+    let other : (n : ℕ) → (c.kind.result ≡ n → ⊥) → (tree_of W).kind c.args.p ≡ n → ⊥ = λ n o e. o (c.kind.ensures W ∙ e) in
+    part-other (tree_of W) T.entry _ (other 10 (search rules)) (other 25 (search rules))

@@ -7,7 +7,7 @@ pub returns : goal.returns
 returns c =
     let s = c.args.tallies.now in
     let r = c.args.row in record {
-      adds = row-judged (marks_at s r) (count_at s r) (related_at s r) c.is_unused.result c.used_twice.result c.wide-place.ensures.0 c.is_unused.ensures (c.used_twice.ensures c.wide-place.result)
+      adds = row-judged (marks_at s r) (count_at s r) (related_at s r) c.is_unused.result c.used_twice.result c.from-place.ensures c.is_unused.ensures (c.used_twice.ensures c.from-place.result)
           c.emit_if-first.ensures c.emit_hit-total.ensures;
       tallies_value = c.blank.ensures;
     }

@@ -1,51 +1,84 @@
 -- `entries` meets its contract: a walk from item to item, with clean tables between them, up to the first that has a 60.
-use borrow.Author.Rules.{rules}
 use native.Mathlib.Omega.{arith}
 use Prim.Native.Nat.{◌<◌, ◌≤◌}
 use mathlib.Core.Path.{refl}
 use Rattle.rules.specs.Sweep.{has}
 use Rattle.rules.specs.Tree.{entry}
+use Rattle.std.proofs.lemmas.Result.{err_from_is_err_and}
 use Rattle.nodes.proofs.Spans.{span_below, child-on}
 use Rattle.nodes.proofs.Shapes.{all_in, skips-items}
-use Rattle.nodes.proofs.Cursors.{before_last, past-last, still-over, on-to}
+use Rattle.nodes.proofs.Iterated.{begun, at-first, ends-at, turn, ended}
 use Rattle.linear.proofs.Fresh.{cleaned}
 use Rattle.linear_table.proofs.Cutting.{cutting-starts, cutting-on, cut-stops, cut-done}
 use Rattle.linear_table.proofs.entries.Goals as goal
 
-pub loop-children-init : goal.loop-children-init
-loop-children-init c = let d = c.requires in let T = d.0 in let S = span_below T.known.view T.root (c.end-to.ensures T.known.view) in (record { part = refl; last = refl }, S, omega arith, S.order, omega arith, λ T. (T.clean, d.1, cutting-starts d.2))
+pub loop-item-init : goal.loop-item-init
+loop-item-init c =
+    let d = c.requires in
+    let W = d.0.known.view in
+    let e = c.into_iter-item-iterator.ensures.into_iter_gives in
+    let b = c.of-item-items.ensures in
+    let at = at-first e b.0 in
+    let S = span_below W d.0.root (ends-at 0 e b.1 W) in
+    let h = S.order in
+    (begun e b.0, S, omega arith, omega arith, omega arith, λ T. (T.clean, rw at d.1, rw at (cutting-starts d.2)))
 
-pub entry-stood-requires : goal.entry-stood-requires
-entry-stood-requires c = let T = c.requires.0 in let i = c.loop-children.invariant in (cleaned T (i.5 T).0, search rules, i.2, (i.5 T).1, i.4)
+pub entry-requires : goal.entry-requires
+entry-requires c =
+    let T = c.requires.0 in
+    let i = c.loop-item.invariant in
+    let t = turn {t = c.next.new.self} i.0 c.in-Some.ensures.steps in
+    let is = t.is in
+    let l = i.2 in
+    let f = i.4 in
+    let q = rw (← is) at (i.5 T) in
+    (cleaned T q.0, t.here, omega arith, q.1, omega arith)
 
-pub returns-then-alias-ne0 : goal.returns-then-alias-ne0
-returns-then-alias-ne0 c =
-    let T₀ = c.requires.0 in let i = c.loop-children.invariant in let l = before_last i.0 c.loop-children-test.true in let u = i.1.under in let r = c.entry-stood.ensures in
-    ((r (cleaned T₀ (i.5 T₀).0)).small, λ T. let e = c.end-to.ensures T.known.view in cut-stops (i.5 T).2 (r (cleaned T (i.5 T).0)) c.if-alias-ne0.true i.2 (omega arith) i.4 (omega arith))
+pub returns-in_err-total : goal.returns-in_err-total
+returns-in_err-total c =
+    λ T.
+    let i = c.loop-item.invariant in
+    let t = turn {t = c.next.new.self} i.0 c.in-Some.ensures.steps in
+    let is = t.is in
+    let l = t.before in
+    let low = i.2 in
+    let f = i.4 in
+    let u = i.1.under in
+    let e = ends-at 0 c.into_iter-item-iterator.ensures.into_iter_gives c.of-item-items.ensures.1 T.known.view in
+    let q = rw (← is) at (i.5 T) in
+    let p = err_from_is_err_and c.from_residual.result c.from_residual.ensures.1 in rw (p.1, p.2) (cut-stops q.2 (rw c.in_err-total.was at (c.entry.ensures (cleaned T q.0))) (omega arith) (omega arith) (omega arith) (omega arith))
 
-pub loop-children-smaller : goal.loop-children-smaller
-loop-children-smaller c =
-    let moved : (c.loop-children.children.at < c.step.result.rest.at) × (c.step.result.rest.at ≤ c.end-to.result) = let T = c.requires.0 in let W = T.known.view in let i = c.loop-children.invariant in child-on W T.root (c.end-to.ensures W) i.2 (before_last i.0 c.loop-children-test.true) (on-to i.0 c.step.ensures W) in
-    let m = moved in omega arith
-
-pub loop-children-preserved : goal.loop-children-preserved
+pub loop-item-preserved : goal.loop-item-preserved
 unfolding all_in has
-loop-children-preserved c =
-    let moved : (c.loop-children.children.at < c.step.result.rest.at) × (c.step.result.rest.at ≤ c.end-to.result) = let T = c.requires.0 in let W = T.known.view in let i = c.loop-children.invariant in child-on W T.root (c.end-to.ensures W) i.2 (before_last i.0 c.loop-children-test.true) (on-to i.0 c.step.ensures W) in
-    let T₀ = c.requires.0 in let i = c.loop-children.invariant in let z = c.if-alias-ne0.false in let m = moved in let on = on-to i.0 c.step.ensures in let r = c.entry-stood.ensures in
-    let f = (r (cleaned T₀ (i.5 T₀).0)).room z in let q = on T₀.known.view in (
-      still-over i.0 c.step.ensures,
+loop-item-preserved c =
+    let T₀ = c.requires.0 in
+    let W₀ = T₀.known.view in
+    let i = c.loop-item.invariant in
+    let t = turn i.0 c.in-Some.ensures.steps in
+    let is = t.is in
+    let low = i.2 in
+    let to = ends-at 0 c.into_iter-item-iterator.ensures.into_iter_gives c.of-item-items.ensures.1 in
+    let m = child-on W₀ T₀.root (to W₀) (rw (← is) at low) t.before (t.moved W₀) in
+    let q = rw (← is) at i.5 in
+    let f = (rw c.in_ok-total.was at (c.entry.ensures (cleaned T₀ (q T₀).0))).room in
+    let on = t.moved W₀ in (
+      t.still,
       i.1,
       omega arith,
       m.1,
       omega arith,
       λ T.
-          let I = r (cleaned T (i.5 T).0) in
-          let e = on T.known.view in
-          (I.clean z, rw e (I.clear z), cutting-on (i.5 T).2 I z i.2 m.0 (λ j a d. skips-items entry refl T.known.view (search rules) i.2 e j a d)),
+          let I = rw c.in_ok-total.was at (c.entry.ensures (cleaned T (q T).0)) in
+          let e = t.moved T.known.view in
+          (I.clean, rw e I.clear, cutting-on (q T).2 I (omega arith) m.0 (λ j a d. skips-items entry refl T.known.view t.here (omega arith) e j a d)),
     )
 
 pub returns : goal.returns
 returns c =
-    let i = c.loop-children.invariant in let l = past-last i.0 c.loop-children-test.false in let h = i.3 in let u = i.1.under in
-    (omega arith, λ T. let e = c.end-to.ensures T.known.view in cut-done (i.5 T).2 i.2 (omega arith) i.4 (omega arith))
+    λ T.
+    let i = c.loop-item.invariant in
+    let l = ended i.0 c.in-None.ensures.steps.3 in
+    let h = i.3 in
+    let u = i.1.under in
+    let e = ends-at 0 c.into_iter-item-iterator.ensures.into_iter_gives c.of-item-items.ensures.1 T.known.view in
+    cut-done (i.5 T).2 i.2 (omega arith) i.4 (omega arith)

@@ -20,13 +20,10 @@ pub bounds-places-k : goal.bounds-places-k
 bounds-places-k c = let f = c.requires.rows.few in omega arith
 
 pub untrack_row-requires : goal.untrack_row-requires
-untrack_row-requires c = row-placed c.requires c.loop-k-test.true c.wide.ensures.0
-
-pub overflow_add-k : goal.overflow_add-k
-overflow_add-k c = let f = c.requires.rows.few in omega arith
+untrack_row-requires c = row-placed c.requires c.loop-k-test.true c.from.ensures
 
 pub loop-k-preserved : goal.loop-k-preserved
-loop-k-preserved c = folding-again c.loop-k.invariant (λ T. c.untrack_row.ensures (row-placed T c.loop-k-test.true c.wide.ensures.0)) c.loop-k-test.true
+loop-k-preserved c = folding-again c.loop-k.invariant (λ T. c.untrack_row.ensures (row-placed T c.loop-k-test.true c.from.ensures)) c.loop-k-test.true
 
 pub returns : goal.returns
 returns c = λ T note N. marks-as (λ w. rows-off note (named (tree_of T.view) w) (rows_of T.entry (tree_of T.view)) c.args.n T.rows.count) (folding-done c.loop-k.invariant c.loop-k-test.false T _ N)

@@ -1,5 +1,4 @@
 -- `untrack` meets its contract: row by row, until no name of a row has anything noted.
-use Prim.Native.Nat.{◌-◌}
 use lib.ListN.{get_or}
 use Rattle.rules.specs.Vocabulary.{named}
 use Rattle.nodes.specs.Shown.{tree_of}
@@ -12,6 +11,3 @@ use Rattle.linear_tracked.proofs.untrack.Given as goal
 
 abbrev pub invariant-loop-k : goal.invariant-loop-k
 invariant-loop-k l = Folding 0 noting Off (λ (T : Placed l.nodes l.n l.places). T.view.image) (λ T w i. named (tree_of T.view) w (get_or (rows_of T.entry (tree_of T.view)) i 0)) 0 l.n l.initial.rows l.rows l.k
-
-abbrev pub decreases-loop-k : goal.decreases-loop-k
-decreases-loop-k l = l.n - l.k

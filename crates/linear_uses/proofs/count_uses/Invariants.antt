@@ -14,6 +14,3 @@ invariant-loop-p l =
     Span l.nodes l.base l.base l.end × (l.base ≤ l.p) × (l.p ≤ l.end)
     × ((T : Using l.nodes l.base l.reader l.rows) → Ahead (tree_of T.counting.view) l.base l.p l.consumers
     × ((M : ℕ → List ℕ) → Tallied M (λ r. []) l.initial.tallies → Tallied M (λ r. run (use_at (tree_of T.counting.view) T.counting.entry T.row_of r) l.base (l.p - l.base)) l.tallies))
-
-abbrev pub decreases-loop-p : goal.decreases-loop-p
-decreases-loop-p l = l.end - l.p

@@ -14,6 +14,3 @@ invariant-loop-p l =
     Span l.nodes l.base l.base l.end
     × Sweeps (λ _. Wrote) (λ (T : Telling l.nodes l.base l.reader l.last) i. each (use_words (tree_of T.counting.view) T.counting.entry) (use_at (tree_of T.counting.view) T.counting.entry T.row_of (l.row - 1) i)) l.base l.end 2 l.initial.out l.count l.out l.total l.p
     × ((T : Telling l.nodes l.base l.reader l.last) → Ahead (tree_of T.counting.view) l.base l.p l.consumers)
-
-abbrev pub decreases-loop-p : goal.decreases-loop-p
-decreases-loop-p l = l.end - l.p

@@ -1,12 +1,9 @@
 -- `entry_at` meets its contract: no item before the one at hand is an Entry that holds the place.
-use Prim.Native.Nat.{◌-◌, ◌≤◌}
+use Prim.Native.Nat.{◌≤◌}
 use Rattle.nodes.specs.Shown.{View, tree_of}
-use Rattle.nodes.proofs.Cursors.{Over}
+use Rattle.nodes.proofs.Iterated.{Over}
 use Rattle.why.proofs.Held.{NoneHolds}
 use Rattle.why.proofs.entry_at.Given as goal
 
-abbrev pub invariant-loop-children : goal.invariant-loop-children
-invariant-loop-children l = Over 0 l.to l.children × (1 ≤ l.children.at) × (l.children.at ≤ l.to) × ((W : View l.nodes 0) → NoneHolds (tree_of W) l.place l.children.at)
-
-abbrev pub decreases-loop-children : goal.decreases-loop-children
-decreases-loop-children l = l.to - l.children.at
+abbrev pub invariant-loop-item : goal.invariant-loop-item
+invariant-loop-item l = let s = l.initial.item-iterator in Over l.nodes 0 s.to l.item-iterator × (1 ≤ l.item-iterator.at) × ((W : View l.nodes 0) → NoneHolds (tree_of W) l.place l.item-iterator.at)
