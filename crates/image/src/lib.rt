@@ -3,7 +3,7 @@
 // `children` (the table of children), `name_table` (the names) and `steps` (one step of the walk over the nodes).
 #![tactic(auto)]
 
-ghost use Rattle.std.specs.Prelude.{◌≡◌, ◌+◌, ◌*◌, ◌<◌, ◌≤◌, length};
+ghost use Rattle.std.specs.Prelude.{◌≡◌, MatchOption, ◌+◌, ◌*◌, ◌<◌, ◌≤◌, length};
 ghost use Rattle.image.specs.Maxima.{max_nodes, max_names};
 ghost use Rattle.image.specs.Node.{half, full_word, kind_of, name_of, end_of, from_of, to_of};
 ghost use Rattle.image.specs.Text.{less, off_of};
@@ -35,6 +35,23 @@ impl Refusal {
         ensures { result ≡ number_of self }
     {
         self as usize
+    }
+
+    // The refusal of this number, if it is one.
+    pub fn of(number: usize) -> Option<Refusal>
+        ensures { MatchOption result (number < 9 → number ≡ 0) (λ refusal. number_of refusal ≡ number) }
+    {
+        match number {
+            1 => Some(Refusal::Length),
+            2 => Some(Refusal::Version),
+            3 => Some(Refusal::Counts),
+            4 => Some(Refusal::Layout),
+            5 => Some(Refusal::Names),
+            6 => Some(Refusal::Tree),
+            7 => Some(Refusal::Depth),
+            8 => Some(Refusal::Unused),
+            _ => None,
+        }
     }
 }
 

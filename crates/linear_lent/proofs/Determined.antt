@@ -12,7 +12,7 @@ use denote.Triple.Clauses.{AtExit}
 use denote.Triple.Entry.{Args}
 use denote.Triple.Walked.{needs}
 use Rattle.rules.specs.Linear.{linear as pass}
-use Rattle.passes.specs.declared.Verdict.{Verdict}
+use Rattle.passes.specs.Verdicts.{Verdict}
 use Rattle.typeck.specs.Face.{Judged}
 use Rattle.typeck.proofs.Settles.{same, only}
 use Rattle.linear_lent.specs.Lent.{JudgedIn}

@@ -22,9 +22,10 @@ use Rattle.rules.specs.Passes as passes
 use Rattle.rules.proofs.Answers.{refusal-most}
 use Rattle.rules.proofs.Passes.{judges-linear}
 use Rattle.records.proofs.Sweep.{run-parts, run-one, run-below}
-use Rattle.passes.specs.declared.Verdict.{Verdict}
-use Rattle.passes.specs.declared.Verdict.TheVariants as answer
-use Rattle.typeck.specs.Face.{Judged, verdict_of}
+use Rattle.image.specs.declared.Refusal.{Refusal}
+use Rattle.image.specs.Refusals.{refusal_of}
+use Rattle.std.specs.Prelude.{Err}
+use Rattle.typeck.specs.Face.{Verdict, Judged, verdict_of}
 use Rattle.passes.proofs.Laws.{judged-refused, judged-numbers}
 use Rattle.linear_table.specs.declared.Row.{Row}
 use Rattle.linear_table.specs.Table.{blank_row, nth_row, row_in, row_for, one_row, entry_rows, item_rows, entry60s, Cut, TableOf}
@@ -252,6 +253,9 @@ found-admitted {s} ys {c} T l e h = ⊎_elim (λ (z : refusal s ≡ 0). z) refus
         let m = refusal-most s in
         absurd (omega arith)
 
+abbrev no_image : Refusal → Verdict
+no_image r = Err r
+
 pub judged-in : {s cells : List ℕ} (ys : List Row) {zs : List Row} {c : State} {v : Verdict} → TableOf s cells → length ys ≡ 511 → c ≡ (ran cells ys).0 → zs ≡ (ran cells ys).1 → v ≡ verdict_of (answered s c.found) → JudgedIn s ys v zs
 judged-in {s} {cells} ys {zs} {c} {v} T l e d f = ⊎_elim admitted refused (eq-or-ne (refusal s) 0)
   where
@@ -268,8 +272,8 @@ judged-in {s} {cells} ys {zs} {c} {v} T l e d f = ⊎_elim admitted refused (eq-
     refused n =
         let a = ran-refused T ys n in
         let m = refusal-most s in
-        let g : v ≡ answer.Image (refusal s) = f ∙ ap (λ (d : State). verdict_of (answered s d.found)) (e ∙ ap (λ (p : State × List Row). p.0) a) ∙ simp (ne_eqb (refusal s) 0 n, lt-ltb (refusal s) 9 (omega arith)) in
+        let g : v ≡ no_image (refusal_of (refusal s)) = f ∙ ap (λ (d : State). verdict_of (answered s d.found)) (e ∙ ap (λ (p : State × List Row). p.0) a) ∙ simp (ne_eqb (refusal s) 0 n, lt-ltb (refusal s) 9 (omega arith)) in
         record {
-          verdict = subst (Judged linear s) (sym g) (judged-refused linear s (refusal s) (sym (admission-no s (refusal s) n)));
+          verdict = subst (Judged linear s) (sym g) (judged-refused linear s (refusal_of (refusal s)) (sym (admission-no s (refusal s) n)));
           rows_are = d ∙ ap (λ (p : State × List Row). p.1) a ∙ sym (ap (λ (b : Bool). pick b (replicate 511 blank_row) ys) (ne_eqb (refusal s) 0 n));
         }

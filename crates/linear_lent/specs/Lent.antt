@@ -2,8 +2,7 @@
 use Rattle.std.specs.Prelude.{ℕ, ◌≡◌, List}
 use Rattle.rules.specs.Linear.{linear}
 use Rattle.rules.specs.Answers.{lent_rows}
-use Rattle.passes.specs.declared.Verdict.{Verdict}
-use Rattle.typeck.specs.Face.{Judged}
+use Rattle.typeck.specs.Face.{Verdict, Judged}
 use Rattle.linear_table.specs.declared.Row.{Row}
 use Rattle.linear_table.specs.Table.{blank_row}
 pub use Rattle.linear_lent.specs.Steps.{ran, answered}

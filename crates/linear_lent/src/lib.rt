@@ -2,7 +2,7 @@
 // Two functions hold the rows, and a third lends its own; they call functions with plain parameters for all else.
 #![tactic(auto)]
 
-ghost use Rattle.std.specs.Prelude.{◌≡◌, ◌≤◌, length, replicate};
+ghost use Rattle.std.specs.Prelude.{◌≡◌, Ok, ◌≤◌, length, replicate};
 ghost use Rattle.image.specs.Admit.{refusal};
 ghost use Rattle.rules.specs.Linear.{linear};
 ghost use Rattle.typeck.specs.Face.{Judged, verdict_of};
@@ -10,10 +10,10 @@ ghost use Rattle.linear_table.specs.Table.{blank_row};
 ghost use Rattle.linear_steps.specs.declared.Found.{Found};
 ghost use Rattle.linear_lent.specs.Lent.{JudgedIn, ran, answered};
 
-use image::{Admission, Image};
+use image::{Image, Refusal};
 use linear_steps::State;
 use linear_table::Row;
-use typeck::Verdict;
+use typeck::{Offence, Verdict};
 
 // The steps, one after the other, in the rows that are lent.
 fn drive(cells: &[u16], rows: &mut [Row]) -> State
@@ -36,36 +36,28 @@ fn answer(image: &[u8], c: State) -> Verdict
     ensures { result ≡ verdict_of (answered image.now c.found) }
 {
     let found = c.found;
-    let number = found.number;
-    let place = found.place;
-    if number == 0 {
-        return Verdict::Accepted;
+    if let Some(refusal) = Refusal::of(usize::from(found.number)) {
+        return Err(refusal);
     }
-    if number < 9 {
-        return Verdict::Image(usize::from(number));
+    if found.number == 0 {
+        return Ok(None);
     }
-    refused_at(image, number, place)
+    Ok(refused_at(image, found.number, found.place))
 }
 
 // A code and its place, with the span words of the place.
-fn refused_at(image: &[u8], code: u16, place: u16) -> Verdict
+fn refused_at(image: &[u8], code: u16, place: u16) -> Option<Offence>
     requires { (9 ≤ code) × (refusal image.now ≡ 0) }
-    ensures { (f : Found) → f.number ≡ code → f.place ≡ place → result ≡ verdict_of (answered image.now f) }
+    ensures { (f : Found) → f.number ≡ code → f.place ≡ place → Ok result ≡ verdict_of (answered image.now f) }
 {
-    match Image::read(image) {
-        Admission::Refused(number) => Verdict::Image(number),
-        Admission::Admitted(head) => {
-            let span = spans::of_place(image, head, usize::from(place));
-            let from = span.from;
-            let to = span.to;
-            Verdict::Refused {
-                code,
-                place,
-                from: from as u32,
-                to: to as u32,
-            }
-        }
-    }
+    let head = Image::read(image).ok()?;
+    let span = spans::of_place(image, head, usize::from(place));
+    Some(Offence {
+        code,
+        place,
+        from: span.from as u32,
+        to: span.to as u32,
+    })
 }
 
 // The verdict of the linear pass, by the rows that are lent. They are as they were where the image is refused, and blank otherwise.

@@ -6,7 +6,9 @@ use native.Mathlib.Omega.{arith}
 use lib.ListN.{length, get_or, set, replicate, length-set, length-replicate}
 use lib.Seq.{get_or-set_same, get_or-set_other}
 use Rattle.image.specs.Admit.{refusal, admission_of}
-use Rattle.image.specs.declared.Admission.TheVariants as admission
+use Rattle.std.specs.Prelude.{Err}
+use Rattle.image.specs.declared.Refusal.{Refusal}
+use Rattle.image.specs.Refusals.{number_of}
 use Rattle.image.proofs.Verdict.{refused-is}
 use Rattle.rules.proofs.Answers.{refusal-most}
 use Rattle.nodes.proofs.Admission.{refused-number}
@@ -45,16 +47,16 @@ refused-cell : (k : ℕ) → get_or (refused_table k) 2045 0 ≡ k
 unfolding refused_table
 refused-cell k = let l : length (replicate {A = ℕ} 2046 0) ≡ 2046 = length-replicate {A = ℕ} 2046 0 in get_or-set_same (replicate 2046 0) 2045 k 0 (omega arith)
 
-module _ (s : List ℕ) (k : ℕ) (e : admission_of (refusal s) s ≡ admission.Refused k) where
+module _ (s : List ℕ) (r : Refusal) (e : admission_of (refusal s) s ≡ Err r) {k : ℕ} (number : k ≡ number_of r) where
   pub number_small : k < 65536
-  number_small = let a = refused-number s k e in let b = refusal-most s in omega arith
+  number_small = let a = refused-number s r e in let b = refusal-most s in omega arith
 
   pub table-refused : {table : List ℕ} → table ≡ refused_table k → TableOf s table
   table-refused d =
-      let n : k ≡ refusal s = refused-number s k e in
+      let n : k ≡ refusal s = number ∙ refused-number s r e in
       record {
         size = ap length d ∙ refused-size k;
         refused = ap (λ (t : List ℕ). get_or t 2045 0) d ∙ refused-cell k ∙ n;
-        cut = λ z. absurd (refused-is (refusal s) s k e z);
+        cut = λ z. absurd ((refused-is (refusal s) s r e).0 z);
         no_rows = λ z. d ∙ ap refused_table n;
       }

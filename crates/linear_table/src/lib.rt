@@ -11,7 +11,7 @@ ghost use Rattle.linear.specs.Seen.{LinearTables};
 ghost use Rattle.linear_table.specs.declared.Row.{Row};
 ghost use Rattle.linear_table.specs.Table.{stored, Holds, row_by, rows_by, entry60s, First60, ItemStands, ItemStops, Cut, refused_table, TableOf};
 
-use image::{Admission, Image};
+use image::Image;
 use linear_occurrences::Consumers;
 use linear_parts::Words;
 use linear_rows::Tallies;
@@ -215,7 +215,7 @@ pub fn table_of(image: &[u8]) -> Table
     ensures { TableOf image.now result }
 {
     match admission::admit(image) {
-        Admission::Refused(number) => refused(number),
-        Admission::Admitted(head) => tracked(image, head),
+        Err(refusal) => refused(refusal.number()),
+        Ok(head) => tracked(image, head),
     }
 }

@@ -10,36 +10,36 @@ use Rattle.nodes.specs.Chain.{Ended, Stepped, Begun}
 -- the walk is one in the part whose first node is number `b`, up to `to`
 pub record Over (part : List ℕ) (b to : ℕ) (s : Children) : Type 0 where
   pub nodes : s.nodes.now ≡ part
-  pub base : s.base ≡ b
-  pub last : s.to ≡ to
+  pub base : s.rest.base ≡ b
+  pub last : s.rest.end ≡ to
 
 -- one turn: the child, and the walk from its end on
 pub record Turn (part : List ℕ) (b to : ℕ) (s : Children) (child : ℕ) (t : Children) : Type 0 where
-  pub is : child ≡ s.at
+  pub is : child ≡ s.rest.at
   pub before : child < to
   pub here : In part b child
-  pub moved : (W : View part b) → t.at ≡ (tree_of W).end child
+  pub moved : (W : View part b) → t.rest.at ≡ (tree_of W).end child
   pub still : Over part b to t
 
 -- a walk that was begun: it is what a `for` takes
-module _ {part : List ℕ} {b from : ℕ} {s s' : Children} (e : s' ≡ s) (g : Begun part b from s.nodes.now s.base s.at) where
-  pub begun : Over part b s'.to s'
+module _ {part : List ℕ} {b from : ℕ} {s s' : Children} (e : s' ≡ s) (g : Begun part b from s.nodes.now s.rest.base s.rest.at) where
+  pub begun : Over part b s'.rest.end s'
   begun = rw e (record { nodes = g.nodes; base = g.base; last = refl })
 
   -- one whose end is known at once, as that of an entry's head
-  pub begun-to : {to : ℕ} → s.to ≡ to → Over part b to s'
+  pub begun-to : {to : ℕ} → s.rest.end ≡ to → Over part b to s'
   begun-to d = record { nodes = begun.nodes; base = begun.base; last = rw e d }
 
-  pub at-first : s'.at ≡ from
+  pub at-first : s'.rest.at ≡ from
   at-first = rw e g.first
 
-pub ends-at : (a : ℕ) {part : List ℕ} {b : ℕ} {s s' : Children} → s' ≡ s → ((W : View part b) → s.to ≡ (tree_of W).end a) → (W : View part b) → s'.to ≡ (tree_of W).end a
+pub ends-at : (a : ℕ) {part : List ℕ} {b : ℕ} {s s' : Children} → s' ≡ s → ((W : View part b) → s.rest.end ≡ (tree_of W).end a) → (W : View part b) → s'.rest.end ≡ (tree_of W).end a
 ends-at a e f W = rw e (f W)
 
 pub turn : {part : List ℕ} {b to child : ℕ} {s t : Children} → Over part b to s
-    → (t.nodes.now ≡ s.nodes.now) × (t.base ≡ s.base) × (t.to ≡ s.to) × Stepped s.nodes.now s.base s.at s.to child t.at → Turn part b to s child t
+    → (t.nodes.now ≡ s.nodes.now) × (t.rest.base ≡ s.rest.base) × (t.rest.end ≡ s.rest.end) × Stepped s.nodes.now s.rest.base s.rest.at s.rest.end child t.rest.at → Turn part b to s child t
 turn {part} {b} {to} {child} {s} {t} o g =
-    let p : Stepped part b s.at to child t.at = rw (← o.nodes, ← o.base, ← o.last) g.3 in
+    let p : Stepped part b s.rest.at to child t.rest.at = rw (← o.nodes, ← o.base, ← o.last) g.3 in
     record {
       is = p.is;
       before = let z = p.is in let h = p.before in omega arith;
@@ -48,5 +48,5 @@ turn {part} {b} {to} {child} {s} {t} o g =
       still = record { nodes = g.0 ∙ o.nodes; base = g.1 ∙ o.base; last = g.2 ∙ o.last };
     }
 
-pub ended : {part : List ℕ} {b to : ℕ} {s : Children} → Over part b to s → Ended s.at s.to → to ≤ s.at
+pub ended : {part : List ℕ} {b to : ℕ} {s : Children} → Over part b to s → Ended s.rest.at s.rest.end → to ≤ s.rest.at
 ended o g = let l = g.done in let e = o.last in omega arith

@@ -126,7 +126,7 @@ impl Cursor {
         let base = self.base;
         let child = self.at;
         let to = self.end;
-        let at = end(nodes, base, child);
+        let at = image::end(nodes, child - base);
         Step {
             child,
             rest: Cursor { base, at, end: to },
@@ -211,17 +211,6 @@ pub fn down(past: Past, nodes: &[u8], base: usize, x: usize) -> usize
         }
     }
     to
-}
-
-// The next node of a walk over the items and the fields of a contract: into a State, past any other node.
-pub fn next_declaration(nodes: &[u8], base: usize, p: usize) -> usize
-    requires { In nodes.now base p }
-    ensures { (W : View nodes.now base) → result ≡ onward (tree_of W) state p }
-{
-    if kind(nodes, base, p) == STATE {
-        return p + 1;
-    }
-    end(nodes, base, p)
 }
 
 // The kinds that may hold a Type.

@@ -1,4 +1,4 @@
-// The children of a node, one after another: the one place where a walk goes from child to child.
+// Walks as iterators: the children of a node by a cursor, the items and the fields of a contract.
 ghost use Rattle.std.specs.Prelude.{◌≡◌, ℕ, ◌+◌, ◌-◌, ◌<◌, MatchOption};
 ghost use Rattle.std.specs.Iterator.{at_most};
 ghost use Rattle.rules.specs.Tree.{state};
@@ -7,30 +7,30 @@ ghost use Rattle.nodes.specs.Walk.{onward};
 ghost use Rattle.nodes.specs.Shown.{View, In, tree_of};
 ghost use Rattle.nodes.specs.First.{Head, Until};
 
-// The children that stand from `at` up to `to`, in a part of the node area whose first node is number `base`.
+use crate::Cursor;
+
+// Children one after another: the part of the node area that they stand in, and the cursor before those that are left.
 #[derive(Drop)]
 pub struct Children<'a> {
     pub nodes: &'a [u8],
-    pub base: usize,
-    pub at: usize,
-    pub to: usize,
-    pub ghost chain: { Chain nodes.now base at to },
+    pub rest: Cursor,
+    pub ghost chain: { Chain nodes.now rest.base rest.at rest.end },
 }
 
 impl<'a> Iterator for Children<'a> {
     type Item = usize;
 
-    ghost next_gives = { λ s r t. (t.nodes.now ≡ s.nodes.now) × (t.base ≡ s.base) × (t.to ≡ s.to) × MatchOption r (Ended s.at s.to) (λ child. Stepped s.nodes.now s.base s.at s.to child t.at) };
+    ghost next_gives = { λ s r t. (t.nodes.now ≡ s.nodes.now) × (t.rest.base ≡ s.rest.base) × (t.rest.end ≡ s.rest.end) × MatchOption r (Ended s.rest.at s.rest.end) (λ child. Stepped s.nodes.now s.rest.base s.rest.at s.rest.end child t.rest.at) };
 
-    ghost remaining = { λ s. at_most (s.to - s.at) };
+    ghost remaining = { λ s. at_most (s.rest.end - s.rest.at) };
 
     fn next(&mut self) -> Option<usize> {
-        if self.to <= self.at {
+        if self.rest.end <= self.rest.at {
             return None;
         }
-        let child = self.at;
-        self.at = image::end(self.nodes, child - self.base);
-        Some(child)
+        let step = self.rest.step(self.nodes);
+        self.rest = step.rest;
+        Some(step.child)
     }
 }
 
@@ -38,21 +38,23 @@ impl<'a> Children<'a> {
     // The children of node a from node `from` on, which is past a.
     pub fn from(nodes: &'a [u8], base: usize, a: usize, from: usize) -> Children<'a>
         requires { View nodes.now base × In nodes.now base a × (a < from) }
-        ensures { Begun nodes.now base from result.nodes.now result.base result.at × ((W : View nodes.now base) → result.to ≡ (tree_of W).end a) }
+        ensures { Begun nodes.now base from result.nodes.now result.rest.base result.rest.at × ((W : View nodes.now base) → result.rest.end ≡ (tree_of W).end a) }
     {
-        let to = crate::end(nodes, base, a);
+        let end = crate::end(nodes, base, a);
         Children {
             nodes,
-            base,
-            at: from,
-            to,
+            rest: Cursor {
+                base,
+                at: from,
+                end,
+            },
         }
     }
 
     // The children of node a.
     pub fn of(nodes: &'a [u8], base: usize, a: usize) -> Children<'a>
         requires { View nodes.now base × In nodes.now base a }
-        ensures { Begun nodes.now base (a + 1) result.nodes.now result.base result.at × ((W : View nodes.now base) → result.to ≡ (tree_of W).end a) }
+        ensures { Begun nodes.now base (a + 1) result.nodes.now result.rest.base result.rest.at × ((W : View nodes.now base) → result.rest.end ≡ (tree_of W).end a) }
     {
         Children::from(nodes, base, a, a + 1)
     }
@@ -60,20 +62,22 @@ impl<'a> Children<'a> {
     // The children of node a before node `to`, behind which none of a kind stands.
     pub fn until(nodes: &'a [u8], a: usize, to: usize) -> Children<'a>
         requires { (k : ℕ) × Until nodes.now 0 a to k }
-        ensures { Begun nodes.now 0 (a + 1) result.nodes.now result.base result.at × (result.to ≡ to) }
+        ensures { Begun nodes.now 0 (a + 1) result.nodes.now result.rest.base result.rest.at × (result.rest.end ≡ to) }
     {
         Children {
             nodes,
-            base: 0,
-            at: a + 1,
-            to,
+            rest: Cursor {
+                base: 0,
+                at: a + 1,
+                end: to,
+            },
         }
     }
 
     // The parameters and the clauses of an entry, whose first statement is `to`.
     pub fn heads(nodes: &'a [u8], entry: usize, to: usize) -> Children<'a>
         requires { Head nodes.now 0 entry to }
-        ensures { Begun nodes.now 0 (entry + 1) result.nodes.now result.base result.at × (result.to ≡ to) }
+        ensures { Begun nodes.now 0 (entry + 1) result.nodes.now result.rest.base result.rest.at × (result.rest.end ≡ to) }
     {
         Children::until(nodes, entry, to)
     }
@@ -81,13 +85,16 @@ impl<'a> Children<'a> {
     // The nodes that a part shows, one after another: the statements of an item that is lent as its own part.
     pub fn all(nodes: &'a [u8], base: usize) -> Children<'a>
         requires { View nodes.now base }
-        ensures { Begun nodes.now base base result.nodes.now result.base result.at × ((W : View nodes.now base) → result.to ≡ W.upto) }
+        ensures { Begun nodes.now base base result.nodes.now result.rest.base result.rest.at × ((W : View nodes.now base) → result.rest.end ≡ W.upto) }
     {
+        let end = base + nodes.len() / 16;
         Children {
             nodes,
-            base,
-            at: base,
-            to: base + nodes.len() / 16,
+            rest: Cursor {
+                base,
+                at: base,
+                end,
+            },
         }
     }
 }

@@ -11,7 +11,7 @@ use Rattle.nodes.proofs.Entries.{end-bytes}
 use Rattle.nodes.proofs.Iterated.{Over}
 use Rattle.nodes.proofs.Parts.{inside}
 
-pub headed : {part : List ℕ} {from to : ℕ} {s s' : Children} → s' ≡ s → Begun part 0 from s.nodes.now s.base s.at × (s.to ≡ to) → Over part 0 to s'
+pub headed : {part : List ℕ} {from to : ℕ} {s s' : Children} → s' ≡ s → Begun part 0 from s.nodes.now s.rest.base s.rest.at × (s.rest.end ≡ to) → Over part 0 to s'
 headed e b = rw e (record { nodes = b.0.nodes; base = b.0.base; last = b.1 })
 
 pub stands-in : {X : Type 0} {nodes : List ℕ} {a w p to : ℕ} (W : View nodes 0) (h : HeldNode nodes a w X) → In nodes 0 a → a + 1 ≤ p → p < to → to ≡ (tree_of W).end a → h.entries p ≡ w

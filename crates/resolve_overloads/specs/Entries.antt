@@ -48,13 +48,13 @@ Passes nodes p seen seen' r = (S : Seen nodes p seen) → r ≡ false → (at23 
 -- a walk over children that went on: it stays in its part and keeps its end
 pub record NextParam (s t : Children) : Type 0 where
   pub nodes : t.nodes.now ≡ s.nodes.now
-  pub base : t.base ≡ s.base
-  pub last : t.to ≡ s.to
+  pub base : t.rest.base ≡ s.rest.base
+  pub last : t.rest.end ≡ s.rest.end
 
 -- it gave a parameter; and it stood at none
 pub record AtParam (s t : Children) (p : ℕ) : Type 0 where
-  pub step : Stepped s.nodes.now s.base s.at s.to p t.at
+  pub step : Stepped s.nodes.now s.rest.base s.rest.at s.rest.end p t.rest.at
   pub is : (W : View s.nodes.now 0) → (tree_of W).kind p ≡ 10
 
 pub record AtNoParam (s : Children) : Type 0 where
-  pub is : (W : View s.nodes.now 0) → s.at < s.to → (tree_of W).kind s.at ≡ 10 → ⊥
+  pub is : (W : View s.nodes.now 0) → s.rest.at < s.rest.end → (tree_of W).kind s.rest.at ≡ 10 → ⊥

@@ -57,7 +57,7 @@ fn same_type(nodes: &[u8], i: usize, j: usize) -> bool
 
 // The next child of an entry, if it is a parameter.
 fn next_param(children: &mut Children) -> Option<usize>
-    requires { children.old.base ≡ 0 }
+    requires { children.old.rest.base ≡ 0 }
     ensures { NextParam children.old children.new × MatchOption result (AtNoParam children.old) (AtParam children.old children.new) }
 {
     let p = children.next()?;

@@ -9,4 +9,4 @@ use Rattle.nodes.specs.State.{State}
 use Rattle.access.proofs.group50.Given as goal
 
 abbrev pub invariant-loop-item : goal.invariant-loop-item
-invariant-loop-item l = let s = l.initial.item-iterator in Over l.nodes 0 s.to l.item-iterator × Walk (λ (T : State l.nodes 0 l.state). T.view) invariant (λ T v. below (tree_of T.view) ident v (rule50 (tree_of T.view))) 1 s.to 2048 l.initial.out l.count l.out l.total l.item-iterator.at
+invariant-loop-item l = let s = l.initial.item-iterator in Over l.nodes 0 s.rest.end l.item-iterator × Walk (λ (T : State l.nodes 0 l.state). T.view) invariant (λ T v. below (tree_of T.view) ident v (rule50 (tree_of T.view))) 1 s.rest.end 2048 l.initial.out l.count l.out l.total l.item-iterator.rest.at

@@ -11,4 +11,4 @@ use Rattle.access.specs.Seen.{AccessTables}
 use Rattle.access.proofs.group51.Given as goal
 
 abbrev pub invariant-loop-item : goal.invariant-loop-item
-invariant-loop-item l = let s = l.initial.item-iterator in Over l.nodes 0 s.to l.item-iterator × Walk (λ (T : AccessTables l.nodes l.tables l.initial.written). T.view) entry (λ T e. below (tree_of T.view) statements e (statement_rules (tree_of T.view) e)) 1 s.to 2048 l.initial.out l.count l.out l.total l.item-iterator.at × ((T : AccessTables l.nodes l.tables l.initial.written) → Marks T.view.image (λ w. false) l.written)
+invariant-loop-item l = let s = l.initial.item-iterator in Over l.nodes 0 s.rest.end l.item-iterator × Walk (λ (T : AccessTables l.nodes l.tables l.initial.written). T.view) entry (λ T e. below (tree_of T.view) statements e (statement_rules (tree_of T.view) e)) 1 s.rest.end 2048 l.initial.out l.count l.out l.total l.item-iterator.rest.at × ((T : AccessTables l.nodes l.tables l.initial.written) → Marks T.view.image (λ w. false) l.written)

@@ -46,5 +46,5 @@ returns c =
     let d = ends-at c.args.entry c.into_iter-child-iterator.ensures.into_iter_gives c.of-child-items.ensures.1 in
     let l = ended i.0 c.in-None.ensures.steps.3 in
     let W = c.requires.0 in
-    let z : c.loop-child.child-iterator.at ≡ c.end.result = let e = d W in let f = c.end.ensures W in let h = i.3 in omega arith in
+    let z : c.loop-child.child-iterator.rest.at ≡ c.end.result = let e = d W in let f = c.end.ensures W in let h = i.3 in omega arith in
     λ W. starts W (rw z at i.2) (c.end.ensures W) (omega arith) (rw z at (i.4 W)) (λ h. absurd (omega arith))

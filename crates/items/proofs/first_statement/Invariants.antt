@@ -7,4 +7,4 @@ use Rattle.nodes.proofs.Iterated.{Over}
 use Rattle.items.proofs.first_statement.Given as goal
 
 abbrev pub invariant-loop-child : goal.invariant-loop-child
-invariant-loop-child l = let s = l.initial.child-iterator in Over l.nodes l.base s.to l.child-iterator × Span l.nodes l.base (l.entry + 1) s.to × (l.entry < l.child-iterator.at) × (l.child-iterator.at ≤ s.to) × ((W : View l.nodes l.base) → None (tree_of W) l.entry l.child-iterator.at)
+invariant-loop-child l = let s = l.initial.child-iterator in Over l.nodes l.base s.rest.end l.child-iterator × Span l.nodes l.base (l.entry + 1) s.rest.end × (l.entry < l.child-iterator.rest.at) × (l.child-iterator.rest.at ≤ s.rest.end) × ((W : View l.nodes l.base) → None (tree_of W) l.entry l.child-iterator.rest.at)

@@ -53,9 +53,9 @@ loop-argument-preserved c =
       let k = i.2 in omega arith,
       λ V. rw (on V, is) (reached-on V d.1.0 i.2 (let e = to V in let b = t.before in omega arith) (i.3 V)),
       putting-on i.4
-          (λ V P F. cells-as (λ j. ap (λ (a : ℕ). pick (peels_to (tree_of V) j a) call (P j)) is ∙ sym (ap (λ (x : Bool). pick (also x (peels_to (tree_of V) j) n.argument-iterator.at) call (P j)) ((tells-is_child (tree_of V) _ _).back (i.3 V)))) (c.take_argument.ensures V P F))
+          (λ V P F. cells-as (λ j. ap (λ (a : ℕ). pick (peels_to (tree_of V) j a) call (P j)) is ∙ sym (ap (λ (x : Bool). pick (also x (peels_to (tree_of V) j) n.argument-iterator.rest.at) call (P j)) ((tells-is_child (tree_of V) _ _).back (i.3 V)))) (c.take_argument.ensures V P F))
           m.0 m.1
-          (λ V j a l h. ap (λ (x : Bool). also x (peels_to (tree_of V) j) a) (no-child (tree_of V) _ n.argument-iterator.at a i.2 l (let e = rw is at (on V) in omega arith))),
+          (λ V j a l h. ap (λ (x : Bool). also x (peels_to (tree_of V) j) a) (no-child (tree_of V) _ n.argument-iterator.rest.at a i.2 l (let e = rw is at (on V) in omega arith))),
     )
 
 pub returns : goal.returns

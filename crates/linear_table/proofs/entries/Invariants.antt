@@ -10,5 +10,5 @@ use Rattle.linear_table.proofs.entries.Given as goal
 abbrev pub invariant-loop-item : goal.invariant-loop-item
 invariant-loop-item l =
     let s = l.initial.item-iterator in
-    Over l.nodes 0 s.to l.item-iterator × Span l.nodes 0 1 s.to × (1 ≤ l.item-iterator.at) × (l.item-iterator.at ≤ s.to) × (4 * l.total < l.item-iterator.at)
-    × ((T : LinearTables l.nodes l.words l.reader l.initial.burned l.initial.places l.initial.first l.initial.last l.initial.tallies) → Clean T.known.view.image l.burned l.places l.first l.last l.tallies × Clear l.item-iterator.at l.consumers × Cutting T.known.view.image l.table l.total l.item-iterator.at)
+    Over l.nodes 0 s.rest.end l.item-iterator × Span l.nodes 0 1 s.rest.end × (1 ≤ l.item-iterator.rest.at) × (l.item-iterator.rest.at ≤ s.rest.end) × (4 * l.total < l.item-iterator.rest.at)
+    × ((T : LinearTables l.nodes l.words l.reader l.initial.burned l.initial.places l.initial.first l.initial.last l.initial.tallies) → Clean T.known.view.image l.burned l.places l.first l.last l.tallies × Clear l.item-iterator.rest.at l.consumers × Cutting T.known.view.image l.table l.total l.item-iterator.rest.at)

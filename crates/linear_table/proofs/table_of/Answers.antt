@@ -5,10 +5,10 @@ use Rattle.linear_table.proofs.Made.{number_small, table-refused}
 use Rattle.linear_table.proofs.table_of.Goals as goal
 
 pub refused-requires : goal.refused-requires
-refused-requires c = number_small _ _ (sym c.admit.ensures ∙ c.in-Refused.is)
+refused-requires c = number_small _ _ (sym c.admit.ensures ∙ c.in-Err.is) c.number.ensures
 
 pub tracked-requires : goal.tracked-requires
-tracked-requires c = admitted-by _ _ (sym c.admit.ensures ∙ c.in-Admitted.is)
+tracked-requires c = admitted-by _ _ (sym c.admit.ensures ∙ c.in-Ok.is)
 
-pub returns-in-Refused : goal.returns-in-Refused
-returns-in-Refused c = table-refused _ _ (sym c.admit.ensures ∙ c.in-Refused.is) c.refused.ensures
+pub returns-in-Err : goal.returns-in-Err
+returns-in-Err c = table-refused _ _ (sym c.admit.ensures ∙ c.in-Err.is) c.number.ensures c.refused.ensures

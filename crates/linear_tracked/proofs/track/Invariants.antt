@@ -12,6 +12,6 @@ use Rattle.linear_tracked.proofs.track.Given as goal
 abbrev pub invariant-loop-part : goal.invariant-loop-part
 invariant-loop-part l =
     let s = l.initial.part-iterator in
-    Over l.nodes 0 s.to l.part-iterator × Span l.nodes 0 (l.entry + 1) s.to × (4 * l.tracked.rows + (l.entry + 1) ≤ l.part-iterator.at)
-    × ((T : Unrowed l.nodes l.words l.entry l.initial.places l.initial.first l.initial.last) → Rows T.known.view.image (rows_before l.entry l.part-iterator.at (tree_of T.known.view)) l.tracked.rows l.places l.first l.last)
-    × Sweeping (in_tree (λ (T : Unrowed l.nodes l.words l.entry l.initial.places l.initial.first l.initial.last). T.known.view)) (λ (T : Unrowed l.nodes l.words l.entry l.initial.places l.initial.first l.initial.last) i. at60 i (tree_of T.known.view) l.entry) (l.entry + 1) s.to 1 l.initial.out l.count l.out l.tracked.count l.part-iterator.at
+    Over l.nodes 0 s.rest.end l.part-iterator × Span l.nodes 0 (l.entry + 1) s.rest.end × (4 * l.tracked.rows + (l.entry + 1) ≤ l.part-iterator.rest.at)
+    × ((T : Unrowed l.nodes l.words l.entry l.initial.places l.initial.first l.initial.last) → Rows T.known.view.image (rows_before l.entry l.part-iterator.rest.at (tree_of T.known.view)) l.tracked.rows l.places l.first l.last)
+    × Sweeping (in_tree (λ (T : Unrowed l.nodes l.words l.entry l.initial.places l.initial.first l.initial.last). T.known.view)) (λ (T : Unrowed l.nodes l.words l.entry l.initial.places l.initial.first l.initial.last) i. at60 i (tree_of T.known.view) l.entry) (l.entry + 1) s.rest.end 1 l.initial.out l.count l.out l.tracked.count l.part-iterator.rest.at

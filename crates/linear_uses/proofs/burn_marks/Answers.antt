@@ -17,7 +17,7 @@ loop-part-init c =
     let b = c.heads-part-items.ensures in
     let o = begun e b.0 in
     let S = until-span (until-head c.requires.1 10 refl) in
-    (record { nodes = o.nodes; base = o.base; last = ap (λ (s : Children). s.to) e ∙ b.1 }, S, rw (at-first e b.0) (burnt-starts S.order c.requires.2))
+    (record { nodes = o.nodes; base = o.base; last = ap (λ (s : Children). s.rest.end) e ∙ b.1 }, S, rw (at-first e b.0) (burnt-starts S.order c.requires.2))
 
 pub burn_mark-requires : goal.burn_mark-requires
 burn_mark-requires c =

@@ -20,7 +20,7 @@ loop-part-init c =
     let b = c.heads-part-items.ensures in
     let o = begun e b.0 in
     let S = until-span (until-head c.requires.1 10 refl) in
-    (record { nodes = o.nodes; base = o.base; last = ap (λ (s : Children). s.to) e ∙ b.1 }, S, rw (at-first e b.0) (sweeps-start (λ _. wrote-follows) S.order))
+    (record { nodes = o.nodes; base = o.base; last = ap (λ (s : Children). s.rest.end) e ∙ b.1 }, S, rw (at-first e b.0) (sweeps-start (λ _. wrote-follows) S.order))
 
 pub tell_mark-total-requires : goal.tell_mark-total-requires
 tell_mark-total-requires c =

@@ -10,4 +10,4 @@ use Rattle.lot_words.specs.Told.{Wrote, Marking}
 use Rattle.lot_words.proofs.tell_marks.Given as goal
 
 abbrev pub invariant-loop-part : goal.invariant-loop-part
-invariant-loop-part l = Over l.nodes 0 l.to l.part-iterator × Span l.nodes 0 (l.entry + 1) l.to × Sweeps (λ _. Wrote) (λ (T : Marking l.nodes l.entry l.asset l.clauses l.first) i. each (clause_words (tree_of T.clausal.view) l.entry) (burn_at (tree_of T.clausal.view) l.entry T.row_of (l.row - 1) i)) (l.entry + 1) l.to 2 l.initial.out 0 l.out l.total l.part-iterator.at
+invariant-loop-part l = Over l.nodes 0 l.to l.part-iterator × Span l.nodes 0 (l.entry + 1) l.to × Sweeps (λ _. Wrote) (λ (T : Marking l.nodes l.entry l.asset l.clauses l.first) i. each (clause_words (tree_of T.clausal.view) l.entry) (burn_at (tree_of T.clausal.view) l.entry T.row_of (l.row - 1) i)) (l.entry + 1) l.to 2 l.initial.out 0 l.out l.total l.part-iterator.rest.at

@@ -12,6 +12,6 @@ use Rattle.resolve.proofs.group35.Given as goal
 
 abbrev pub invariant-loop-item : goal.invariant-loop-item
 invariant-loop-item l =
-    let s = l.initial.item-iterator in Over l.nodes 0 s.to l.item-iterator
-    × Walk (λ (T : ResolveTables l.nodes l.tables l.initial.params). T.of_entry.view) entry (λ T. entry_rules (tree_of T.of_entry.view)) 1 s.to (2 ^ 23) l.initial.out l.count l.out l.total l.item-iterator.at
+    let s = l.initial.item-iterator in Over l.nodes 0 s.rest.end l.item-iterator
+    × Walk (λ (T : ResolveTables l.nodes l.tables l.initial.params). T.of_entry.view) entry (λ T. entry_rules (tree_of T.of_entry.view)) 1 s.rest.end (2 ^ 23) l.initial.out l.count l.out l.total l.item-iterator.rest.at
     × ((T : ResolveTables l.nodes l.tables l.initial.params) → Marks T.of_entry.view.image (λ w. false) l.params)

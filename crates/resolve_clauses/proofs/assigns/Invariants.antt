@@ -10,4 +10,4 @@ use Rattle.nodes.specs.Entries.{HeldNode}
 use Rattle.resolve_clauses.proofs.assigns.Given as goal
 
 abbrev pub invariant-loop-statement : goal.invariant-loop-statement
-invariant-loop-statement l = let s = l.initial.statement-iterator in Over l.nodes 0 s.to l.statement-iterator × Walk-by (λ (h : HeldNode l.nodes l.genesis 0 (State l.nodes 0 l.state)). h.seen.view) assign (λ h. rule33 (tree_of h.seen.view)) (λ h. h.entries) (l.genesis + 1) s.to 1 l.initial.out l.count l.out l.total l.statement-iterator.at
+invariant-loop-statement l = let s = l.initial.statement-iterator in Over l.nodes 0 s.rest.end l.statement-iterator × Walk-by (λ (h : HeldNode l.nodes l.genesis 0 (State l.nodes 0 l.state)). h.seen.view) assign (λ h. rule33 (tree_of h.seen.view)) (λ h. h.entries) (l.genesis + 1) s.rest.end 1 l.initial.out l.count l.out l.total l.statement-iterator.rest.at

@@ -10,4 +10,4 @@ use Rattle.resolve_clauses.specs.Said.{OneTable, at_word}
 use Rattle.resolve_clauses.proofs.signers.Given as goal
 
 abbrev pub invariant-loop-part : goal.invariant-loop-part
-invariant-loop-part l = Over l.nodes 0 l.to l.part-iterator × Walk (λ (T : OneTable l.nodes 0 l.marks). T.view) param (λ T x. let t = tree_of T.view in keep (ltb (t.end (x + 2)) (t.end x)) (at_word l.rule T.says t) (t.end (x + 2))) (l.entry + 1) l.to 1 l.initial.out l.count l.out l.total l.part-iterator.at
+invariant-loop-part l = Over l.nodes 0 l.to l.part-iterator × Walk (λ (T : OneTable l.nodes 0 l.marks). T.view) param (λ T x. let t = tree_of T.view in keep (ltb (t.end (x + 2)) (t.end x)) (at_word l.rule T.says t) (t.end (x + 2))) (l.entry + 1) l.to 1 l.initial.out l.count l.out l.total l.part-iterator.rest.at

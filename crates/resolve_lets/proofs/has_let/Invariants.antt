@@ -9,4 +9,4 @@ use Rattle.nodes.proofs.Iterated.{Over}
 use Rattle.resolve_lets.proofs.has_let.Given as goal
 
 abbrev pub invariant-loop-s : goal.invariant-loop-s
-invariant-loop-s l = Over l.nodes 0 l.initial.s-iterator.to l.s-iterator × (l.entry < l.s-iterator.at) × ((W : View l.nodes 0) (j : ℕ) → l.entry < j → j < l.s-iterator.at → has ((tree_of W).kind j) «let» ≡ false)
+invariant-loop-s l = Over l.nodes 0 l.initial.s-iterator.rest.end l.s-iterator × (l.entry < l.s-iterator.rest.at) × ((W : View l.nodes 0) (j : ℕ) → l.entry < j → j < l.s-iterator.rest.at → has ((tree_of W).kind j) «let» ≡ false)

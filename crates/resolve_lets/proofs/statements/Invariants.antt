@@ -10,4 +10,4 @@ use Rattle.resolve_lets.specs.Scope.{NamingBody, statement_names}
 use Rattle.resolve_lets.proofs.statements.Given as goal
 
 abbrev pub invariant-loop-s : goal.invariant-loop-s
-invariant-loop-s l = Over l.nodes l.base (l.base + length l.nodes / 16) l.s-iterator × Stepping (λ (h : HeldPart l.nodes l.base l.entry (NamingBody l.nodes l.base l.state l.params l.lets)). h.seen.scope.body) statements (λ h. statement_names (tree_of h.seen.scope.body.view) h.seen.scope.body.item) (λ h. h.entries) 2051 l.initial.out l.count l.out l.total l.s-iterator.at
+invariant-loop-s l = Over l.nodes l.base (l.base + length l.nodes / 16) l.s-iterator × Stepping (λ (h : HeldPart l.nodes l.base l.entry (NamingBody l.nodes l.base l.state l.params l.lets)). h.seen.scope.body) statements (λ h. statement_names (tree_of h.seen.scope.body.view) h.seen.scope.body.item) (λ h. h.entries) 2051 l.initial.out l.count l.out l.total l.s-iterator.rest.at

@@ -9,4 +9,4 @@ use Rattle.resolve_mints.specs.Minted.{Minting}
 use Rattle.resolve_mints.proofs.mint_calls.Given as goal
 
 abbrev pub invariant-loop-item : goal.invariant-loop-item
-invariant-loop-item l = let s = l.initial.item-iterator in Over l.nodes 0 s.to l.item-iterator × Walk (λ (T : Minting l.nodes 0 l.mint). T.view) bodied (λ T e. calls (tree_of T.view) e (rule22 (tree_of T.view))) 1 s.to 2048 l.initial.out l.count l.out l.total l.item-iterator.at
+invariant-loop-item l = let s = l.initial.item-iterator in Over l.nodes 0 s.rest.end l.item-iterator × Walk (λ (T : Minting l.nodes 0 l.mint). T.view) bodied (λ T e. calls (tree_of T.view) e (rule22 (tree_of T.view))) 1 s.rest.end 2048 l.initial.out l.count l.out l.total l.item-iterator.rest.at

@@ -12,7 +12,7 @@ use Rattle.resolve_overloads.proofs.Keys.{key-start, key-done, key-on}
 use Rattle.resolve_overloads.proofs.entry_key.Goals as goal
 
 -- the child p of the entry e, where the walk stood at q
-low-now : (e : ℕ) {part : List ℕ} {to p : ℕ} {s t : Children} → e + 2 ≤ s.at → Turn part 0 to s p t → e + 2 ≤ p
+low-now : (e : ℕ) {part : List ℕ} {to p : ℕ} {s t : Children} → e + 2 ≤ s.rest.at → Turn part 0 to s p t → e + 2 ≤ p
 low-now e l t = let z = t.is in omega arith
 
 before-end : (e : ℕ) {part : List ℕ} {to p : ℕ} {s t : Children} → ((W : View part 0) → to ≡ (tree_of W).end e) → Turn part 0 to s p t → (W : View part 0) → p < (tree_of W).end e

@@ -64,7 +64,7 @@ returns c = λ S e.
     let d = ends-at 0 c.into_iter-item-iterator.ensures.into_iter_gives c.of-item-items.ensures.1 in
     let g = ended i.0 c.in-None.ensures.steps.3 in
     let h = i.3 in
-    sym (run-below (tree_of S.view) entry (rule23 (tree_of S.view)) 0 1 _ refl (d S.view)) ∙ run-empty _ 1 (c.into_iter-item-iterator.result.to - 1) (λ j a b. (i.4 S).0 j a (omega arith))
+    sym (run-below (tree_of S.view) entry (rule23 (tree_of S.view)) 0 1 _ refl (d S.view)) ∙ run-empty _ 1 (c.into_iter-item-iterator.result.rest.end - 1) (λ j a b. (i.4 S).0 j a (omega arith))
 
 pub returns-then-meets : goal.returns-then-meets
 returns-then-meets c = λ S e. absurd (true≢false e)

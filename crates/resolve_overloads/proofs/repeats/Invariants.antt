@@ -12,5 +12,5 @@ use Rattle.resolve_overloads.proofs.repeats.Given as goal
 abbrev pub invariant-loop-item : goal.invariant-loop-item
 invariant-loop-item l =
     let s = l.initial.item-iterator in
-    Over l.nodes 0 s.to l.item-iterator × Span l.nodes 0 1 s.to × (1 ≤ l.item-iterator.at) × (l.item-iterator.at ≤ s.to)
-    × ((S : Seen l.nodes 1 l.initial.seen) → ((j : ℕ) → 1 ≤ j → j < l.item-iterator.at → at23 j (tree_of S.view) ≡ []) × Marks S.view.image (earlier (tree_of S.view) l.item-iterator.at) l.seen)
+    Over l.nodes 0 s.rest.end l.item-iterator × Span l.nodes 0 1 s.rest.end × (1 ≤ l.item-iterator.rest.at) × (l.item-iterator.rest.at ≤ s.rest.end)
+    × ((S : Seen l.nodes 1 l.initial.seen) → ((j : ℕ) → 1 ≤ j → j < l.item-iterator.rest.at → at23 j (tree_of S.view) ≡ []) × Marks S.view.image (earlier (tree_of S.view) l.item-iterator.rest.at) l.seen)

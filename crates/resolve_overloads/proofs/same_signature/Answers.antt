@@ -24,10 +24,10 @@ same-at t x y e = e ∙ ap₂ (λ (m n : ℕ). same_type t (m + 2) (n + 2)) x y
 -- the walk s over the children of the entry x, up to its end
 module _ (x : ℕ) {nodes : List ℕ} {to : ℕ} {s : Children} (o : Over nodes 0 to s) (d : (W : View nodes 0) → to ≡ (tree_of W).end x) where
   -- it stands at no parameter
-  no : AtNoParam s → (W : View nodes 0) → is_param (tree_of W) x s.at ≡ false
+  no : AtNoParam s → (W : View nodes 0) → is_param (tree_of W) x s.rest.at ≡ false
   no n W =
-      let f : (W : View nodes 0) → s.at < to → (tree_of W).kind s.at ≡ 10 → ⊥ = λ W l k. subst (λ (m : List ℕ). (W : View m 0) → s.at < s.to → (tree_of W).kind s.at ≡ 10 → ⊥) o.nodes n.is W (let e = o.last in omega arith) k in
-      param-false (tree_of W) x s.at (λ l k. f W (let e = d W in omega arith) k)
+      let f : (W : View nodes 0) → s.rest.at < to → (tree_of W).kind s.rest.at ≡ 10 → ⊥ = λ W l k. subst (λ (m : List ℕ). (W : View m 0) → s.rest.at < s.rest.end → (tree_of W).kind s.rest.at ≡ 10 → ⊥) o.nodes n.is W (let e = o.last in omega arith) k in
+      param-false (tree_of W) x s.rest.at (λ l k. f W (let e = d W in omega arith) k)
 
   -- or gives the parameter p
   module _ {t : Children} {p : ℕ} (r : NextParam s t × AtParam s t p) where
@@ -40,24 +40,24 @@ module _ (x : ℕ) {nodes : List ℕ} {to : ℕ} {s : Children} (o : Over nodes 
     before : (W : View nodes 0) → p < (tree_of W).end x
     before W = let b = goes.before in let e = d W in omega arith
 
-    yes : (W : View nodes 0) → is_param (tree_of W) x s.at ≡ true
-    yes W = let z = goes.is in param-true (tree_of W) x s.at (let b = before W in omega arith) (ap (tree_of W).kind (sym z) ∙ kind-is W)
+    yes : (W : View nodes 0) → is_param (tree_of W) x s.rest.at ≡ true
+    yes W = let z = goes.is in param-true (tree_of W) x s.rest.at (let b = before W in omega arith) (ap (tree_of W).kind (sym z) ∙ kind-is W)
 
-    on : (W : View nodes 0) → t.at ≡ (tree_of W).end s.at
+    on : (W : View nodes 0) → t.rest.at ≡ (tree_of W).end s.rest.at
     on W = goes.moved W ∙ ap (tree_of W).end goes.is
 
-    module _ (W : View nodes 0) (i : In nodes 0 x) (l : x + 2 ≤ s.at) where
+    module _ (W : View nodes 0) (i : In nodes 0 x) (l : x + 2 ≤ s.rest.at) where
       low : x + 2 ≤ p
       low = let z = goes.is in omega arith
 
       typed : In nodes 0 (p + 2)
       typed = (param-type-in W i low (before W) (kind-is W)).0
 
-      past : s.at < t.at
+      past : s.rest.at < t.rest.at
       past = let z = goes.is in let m = (param-past W i low (before W) (kind-is W) (goes.moved W)).0 in omega arith
 
   -- whether it gives one
-  gives : (r : Option ℕ) {t : Children} → NextParam s t → MatchOption r (AtNoParam s) (AtParam s t) → (W : View nodes 0) → is_some r ≡ is_param (tree_of W) x s.at
+  gives : (r : Option ℕ) {t : Children} → NextParam s t → MatchOption r (AtNoParam s) (AtParam s t) → (W : View nodes 0) → is_some r ≡ is_param (tree_of W) x s.rest.at
   gives None n m W = sym (no m W)
   gives (Some p) n m W = sym (yes (n, m) W)
 

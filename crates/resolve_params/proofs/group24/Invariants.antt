@@ -12,4 +12,4 @@ use Rattle.resolve_params.proofs.group24.Given as goal
 abbrev pub invariant-loop-item : goal.invariant-loop-item
 invariant-loop-item l =
     let s = l.initial.item-iterator in
-    Over l.nodes 0 s.to l.item-iterator × Walk (λ (T : State l.nodes 0 l.state). T.view) entry (λ T. entry_names (tree_of T.view)) 1 s.to (2053 * 2048) l.initial.out l.count l.out l.total l.item-iterator.at × ((T : State l.nodes 0 l.state) → NoneNoted T l.params l.lets)
+    Over l.nodes 0 s.rest.end l.item-iterator × Walk (λ (T : State l.nodes 0 l.state). T.view) entry (λ T. entry_names (tree_of T.view)) 1 s.rest.end (2053 * 2048) l.initial.out l.count l.out l.total l.item-iterator.rest.at × ((T : State l.nodes 0 l.state) → NoneNoted T l.params l.lets)

@@ -20,7 +20,7 @@ record AtHand (part : List ℕ) (b y q p : ℕ) : Type 0 where
   before : (W : View part b) → p < (tree_of W).end y
   first : (W : View part b) → ChildAt (tree_of W) y p
 
-at-hand : {part names text : List ℕ} {b levels y at to p : ℕ} {s t : Children} → Arguing part b names text levels y at → y + 2 ≤ s.at → ((W : View part b) → ChildAt (tree_of W) y s.at) → ((W : View part b) → to ≡ (tree_of W).end y) → Turn part b to s p t → AtHand part b y s.at p
+at-hand : {part names text : List ℕ} {b levels y at to p : ℕ} {s t : Children} → Arguing part b names text levels y at → y + 2 ≤ s.rest.at → ((W : View part b) → ChildAt (tree_of W) y s.rest.at) → ((W : View part b) → to ≡ (tree_of W).end y) → Turn part b to s p t → AtHand part b y s.rest.at p
 at-hand P l f e t = let z = t.is in let g = t.before in record {
   is = z;
   there = P.there;
@@ -66,7 +66,7 @@ write_args-put_comma-o-requires t c =
     let n = turn {t = c.next.new.self} i.0 c.in-Some.ensures.steps in
     let x = c.in-Some.argument in
     let tree = tree_of P.texts.view in
-    room-comma (i.4 P.texts) (comma (c.args.y + 2) x) (type_text c.args.levels tree x) (args_from c.args.levels tree c.args.y c.next.new.self.at) (more (at-hand P i.1 i.3 d n) P.texts.view n.moved c.args.levels) P.room
+    room-comma (i.4 P.texts) (comma (c.args.y + 2) x) (type_text c.args.levels tree x) (args_from c.args.levels tree c.args.y c.next.new.self.rest.at) (more (at-hand P i.1 i.3 d n) P.texts.view n.moved c.args.levels) P.room
 
 pub write_args-write_type-o-requires : goal.write_args-write_type-o-requires
 write_args-write_type-o-requires t c =
@@ -100,7 +100,7 @@ write_args-returns t c = λ T.
     let i = c.loop-argument.invariant in
     let e = ends-at c.args.y c.into_iter-argument-iterator.ensures.into_iter_gives c.from-argument-items.ensures.1 T.view in
     let g = ended i.0 c.in-None.ensures.steps.3 in
-    goes_end (goes-trans (i.4 T) (goes-as (args-done (tree_of T.view) _ _ c.loop-argument.argument-iterator.at (omega arith))))
+    goes_end (goes-trans (i.4 T) (goes-as (args-done (tree_of T.view) _ _ c.loop-argument.argument-iterator.rest.at (omega arith))))
 
 pub write_type-returns-then-levels-eq0 : goal.write_type-returns-then-levels-eq0
 write_type-returns-then-levels-eq0 t c = λ T.

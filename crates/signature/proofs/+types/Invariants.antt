@@ -18,5 +18,5 @@ decreases-write_type l = 2 * l.levels
 abbrev pub invariant-write_args-loop-argument : goal.invariant-write_args-loop-argument
 invariant-write_args-loop-argument l =
     let s = l.initial.argument-iterator in
-    Over l.nodes l.base s.to l.argument-iterator × (l.y + 2 ≤ l.argument-iterator.at) × (l.argument-iterator.at ≤ s.to) × ((W : View l.nodes l.base) → ChildAt (tree_of W) l.y l.argument-iterator.at)
-    × ((T : Texts l.nodes l.base l.names l.text) → Goes l.initial.out l.at (args_from l.levels (tree_of T.view) l.y (l.y + 2)) l.out l.o (args_from l.levels (tree_of T.view) l.y l.argument-iterator.at))
+    Over l.nodes l.base s.rest.end l.argument-iterator × (l.y + 2 ≤ l.argument-iterator.rest.at) × (l.argument-iterator.rest.at ≤ s.rest.end) × ((W : View l.nodes l.base) → ChildAt (tree_of W) l.y l.argument-iterator.rest.at)
+    × ((T : Texts l.nodes l.base l.names l.text) → Goes l.initial.out l.at (args_from l.levels (tree_of T.view) l.y (l.y + 2)) l.out l.o (args_from l.levels (tree_of T.view) l.y l.argument-iterator.rest.at))

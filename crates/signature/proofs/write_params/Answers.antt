@@ -19,7 +19,7 @@ record AtHand (part : List ℕ) (b e q p : ℕ) : Type 0 where
   low : e + 2 ≤ p
   before : (W : View part b) → p < (tree_of W).end e
 
-at-hand : {part : List ℕ} {b e to p : ℕ} {s t : Children} → In part b e → e + 2 ≤ s.at → ((W : View part b) → to ≡ (tree_of W).end e) → Turn part b to s p t → AtHand part b e s.at p
+at-hand : {part : List ℕ} {b e to p : ℕ} {s t : Children} → In part b e → e + 2 ≤ s.rest.at → ((W : View part b) → to ≡ (tree_of W).end e) → Turn part b to s p t → AtHand part b e s.rest.at p
 at-hand i l d t = let z = t.is in let g = t.before in record { is = z; there = i; low = omega arith; before = λ W. let x = d W in omega arith }
 
 -- it is a parameter, so what remained begins with its type
@@ -44,7 +44,7 @@ returns-then-kind-ne10 c = λ T.
     let l = c.loop-param in
     let i = l.invariant in
     let z = (turn {t = c.next.new.self} i.0 c.in-Some.ensures.steps).is in
-    goes_end (goes-trans (i.4 T) (goes-as (params_none W P.there (kinds-agree W P.texts.view P.there ∙ P.is_entry) l.param-iterator.at (i.3 W) (λ h k. c.if-kind-ne10.true (c.kind.ensures W ∙ ap (tree_of W).kind z ∙ k)))))
+    goes_end (goes-trans (i.4 T) (goes-as (params_none W P.there (kinds-agree W P.texts.view P.there ∙ P.is_entry) l.param-iterator.rest.at (i.3 W) (λ h k. c.if-kind-ne10.true (c.kind.ensures W ∙ ap (tree_of W).kind z ∙ k)))))
 
 pub put_comma-o-requires : goal.put_comma-o-requires
 put_comma-o-requires c =
@@ -54,7 +54,7 @@ put_comma-o-requires c =
     let d = ends-at c.args.e c.into_iter-param-iterator.ensures.into_iter_gives c.from-param-items.ensures.1 in
     let n = turn {t = c.next.new.self} i.0 c.in-Some.ensures.steps in
     let x = c.in-Some.param in
-    room-comma (i.4 P.texts) (comma (c.args.e + 2) x) (type_text 64 (tree_of W) (x + 2)) (params_from (tree_of W) c.args.e c.next.new.self.at) (more (at-hand P.there i.1 d n) W (sym (c.kind.ensures W) ∙ c.if-kind-ne10.false) n.moved) P.room
+    room-comma (i.4 P.texts) (comma (c.args.e + 2) x) (type_text 64 (tree_of W) (x + 2)) (params_from (tree_of W) c.args.e c.next.new.self.rest.at) (more (at-hand P.there i.1 d n) W (sym (c.kind.ensures W) ∙ c.if-kind-ne10.false) n.moved) P.room
 
 pub write_type-o-requires : goal.write_type-o-requires
 write_type-o-requires c =
@@ -95,7 +95,7 @@ returns c = λ T.
     let i = l.invariant in
     let d = ends-at c.args.e c.into_iter-param-iterator.ensures.into_iter_gives c.from-param-items.ensures.1 W in
     let g = ended i.0 c.in-None.ensures.steps.3 in
-    goes_end (goes-trans (i.4 T) (goes-as (params_none W P.there (kinds-agree W P.texts.view P.there ∙ P.is_entry) l.param-iterator.at (i.3 W) (λ h k. absurd (omega arith)))))
+    goes_end (goes-trans (i.4 T) (goes-as (params_none W P.there (kinds-agree W P.texts.view P.there ∙ P.is_entry) l.param-iterator.rest.at (i.3 W) (λ h k. absurd (omega arith)))))
 
 pub from-param-items-requires : goal.from-param-items-requires
 from-param-items-requires c = (c.requires.texts.view, c.requires.there, omega arith)

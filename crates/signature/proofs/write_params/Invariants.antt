@@ -10,5 +10,5 @@ use Rattle.signature.proofs.write_params.Given as goal
 abbrev pub invariant-loop-param : goal.invariant-loop-param
 invariant-loop-param l =
     let s = l.initial.param-iterator in
-    Over l.nodes l.base s.to l.param-iterator × (l.e + 2 ≤ l.param-iterator.at) × (l.param-iterator.at ≤ s.to) × ((W : View l.nodes l.base) → AtParams W.image W.shown.admitted l.e l.param-iterator.at)
-    × ((T : Texts l.nodes l.base l.names l.text) → Goes l.initial.out l.at (params_from (tree_of T.view) l.e (l.e + 2)) l.out l.o (params_from (tree_of T.view) l.e l.param-iterator.at))
+    Over l.nodes l.base s.rest.end l.param-iterator × (l.e + 2 ≤ l.param-iterator.rest.at) × (l.param-iterator.rest.at ≤ s.rest.end) × ((W : View l.nodes l.base) → AtParams W.image W.shown.admitted l.e l.param-iterator.rest.at)
+    × ((T : Texts l.nodes l.base l.names l.text) → Goes l.initial.out l.at (params_from (tree_of T.view) l.e (l.e + 2)) l.out l.o (params_from (tree_of T.view) l.e l.param-iterator.rest.at))

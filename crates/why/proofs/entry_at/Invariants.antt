@@ -6,4 +6,4 @@ use Rattle.why.proofs.Held.{NoneHolds}
 use Rattle.why.proofs.entry_at.Given as goal
 
 abbrev pub invariant-loop-item : goal.invariant-loop-item
-invariant-loop-item l = let s = l.initial.item-iterator in Over l.nodes 0 s.to l.item-iterator × (1 ≤ l.item-iterator.at) × ((W : View l.nodes 0) → NoneHolds (tree_of W) l.place l.item-iterator.at)
+invariant-loop-item l = let s = l.initial.item-iterator in Over l.nodes 0 s.rest.end l.item-iterator × (1 ≤ l.item-iterator.rest.at) × ((W : View l.nodes 0) → NoneHolds (tree_of W) l.place l.item-iterator.rest.at)

@@ -5,8 +5,8 @@ use Rattle.nodes.proofs.Spans.{span-whole, upto_is}
 use Rattle.nodes.proofs.Chains.{chain-all}
 use Rattle.nodes.proofs.walk.Children.all.Goals as goal
 
-pub overflow_add-result : goal.overflow_add-result
-overflow_add-result c = let W = c.requires in let u = (span-whole W (upto_is W)).under in omega arith
+pub overflow_add-end : goal.overflow_add-end
+overflow_add-end c = let W = c.requires in let u = (span-whole W (upto_is W)).under in omega arith
 
 pub invariant_of-result : goal.invariant_of-result
 invariant_of-result c = record { chain = chain-all c.requires }
