@@ -52,6 +52,7 @@ pub fn is_bodied(k: usize) -> bool
 }
 
 // The entry that the nodes of an item of kind k stand in: the item itself, if it is an Entry; else none, 0.
+#[tactic(auto, using(std::proofs::lemmas::Bool::Decides::nat_tests))]
 pub fn entry_of(k: usize, item: usize) -> usize
     ensures { result ≡ pick (eqb k 9) item 0 }
 {

@@ -5,7 +5,7 @@ use Rattle.rules.specs.Tree.{ident}
 use Rattle.rules.specs.All.{entry_of}
 use Rattle.rules.specs.Access.{rule50}
 use Rattle.records.proofs.Laws.{asked, added-nothing}
-use Rattle.records.proofs.Sweep.{sweep-starts, sweep-again, sweep-long, swept, run-below, keep_one, keep-none, has_one, has-not}
+use Rattle.records.proofs.Sweep.{sweep-starts, sweep-again, swept, run-below, keep_one, keep-none, has_one, has-not}
 use Rattle.nodes.specs.Shown.{tree_of}
 use Rattle.nodes.proofs.Entries.{none-holds}
 use Rattle.nodes.proofs.Spans.{span_below}

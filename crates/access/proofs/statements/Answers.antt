@@ -1,7 +1,7 @@
 -- `statements` meets its contract: one sweep over the nodes that are lent.
 use native.Mathlib.Omega.{arith}
-use Rattle.records.proofs.Laws.{asked, held_all}
-use Rattle.records.proofs.Sweep.{sweep-again, sweep-long}
+use Rattle.records.proofs.Laws.{asked}
+use Rattle.records.proofs.Sweep.{sweep-again}
 use Rattle.nodes.proofs.Spans.{span-whole, upto_is, whole-starts, whole-swept}
 use Rattle.access.proofs.statements.Goals as goal
 
