@@ -16,9 +16,6 @@ use Rattle.resolve_calls.proofs.mark_fields.Goals as goal
 pub returns-then-address-lt1 : goal.returns-then-address-lt1
 returns-then-address-lt1 c = λ T M. marks-as (λ w. sym (no_field T c.if-address-lt1.true c.requires.1 w)) M
 
-pub of-p-items-requires : goal.of-p-items-requires
-of-p-items-requires c = (c.requires.0.view, c.requires.1)
-
 pub loop-p-init : goal.loop-p-init
 loop-p-init c =
     let e = c.into_iter-p-iterator.ensures.into_iter_gives in

@@ -2,14 +2,10 @@
 use borrow.Author.Rules.{rules}
 use native.Mathlib.Omega.{arith}
 use Rattle.records.proofs.Laws.{asked, held_all}
-use Rattle.records.proofs.Sweep.{sweep-long}
 use Rattle.nodes.specs.Shown.{In}
 use Rattle.nodes.proofs.Entries.{held_in}
 use Rattle.nodes.proofs.Steps.{walk-on, below-starts, below-done}
 use Rattle.resolve_lets.proofs.idents.Goals as goal
-
-pub rule26-requires : goal.rule26-requires
-rule26-requires c = let T = c.requires.0 in let a = T.body.after in let l = c.requires.1.0 in (T, search rules, omega arith)
 
 pub loop-p-preserved : goal.loop-p-preserved
 loop-p-preserved c =
@@ -18,9 +14,6 @@ loop-p-preserved c =
 
 pub loop-p-init : goal.loop-p-init
 loop-p-init c = below-starts c.args.s (held_all _ c.requires.0) c.requires.1 c.end-end.ensures
-
-pub shape_of-out : goal.shape_of-out
-shape_of-out c = sweep-long c.loop-p.invariant.sweep (held_all _ c.requires.0)
 
 pub returns : goal.returns
 returns c = below-done c.args.s c.loop-p.invariant c.loop-p-test.false c.end-end.ensures

@@ -15,14 +15,8 @@ use Rattle.resolve_lets.proofs.Lent.{body-in}
 use Rattle.resolve_lets.proofs.NoLet.{no-let-rules}
 use Rattle.resolve_lets.proofs.let_rules.Goals as goal
 
-pub has_let-requires : goal.has_let-requires
-has_let-requires c = c.requires.1
-
 pub returns-then-not-has_let : goal.returns-then-not-has_let
 returns-then-not-has_let c = record { adds = added-nothing (λ T. sym (no-let-rules _ _ (c.has_let.ensures c.if-not-has_let.true T.lent.named.view))); cleans_lets = λ T. T.clean }
-
-pub statements-body-requires : goal.statements-body-requires
-statements-body-requires c = let H = c.requires.1 in record { view = H.view; here = H.here; first = H.first }
 
 pub statements-total-requires : goal.statements-total-requires
 statements-total-requires c = let T = c.requires.0 in let H = c.requires.1 in let W = T.lent.named.view in (body-in T H.here H.positive (head-is H W) (head_first H W) (c.statements-body.ensures W) c.note_parts.ensures, c.requires.2, let l = H.here.2 in omega arith)

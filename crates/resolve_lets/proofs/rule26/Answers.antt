@@ -1,6 +1,5 @@
 -- `rule26` meets its contract: another kind, or an Ident and the first Let of its name.
 use mathlib.Core.Path.{◌≡◌, ◌∙◌, sym}
-use mathlib.Core.Logic.{inr}
 use Rattle.rules.specs.Resolve.{rule26}
 use Rattle.rules.specs.Vocabulary.{rec}
 use Rattle.nodes.specs.Shown.{View, tree_of}
@@ -10,11 +9,6 @@ use Rattle.resolve_lets.proofs.rule26.Goals as goal
 
 pub returns-then-kind-ne-IDENT : goal.returns-then-kind-ne-IDENT
 returns-then-kind-ne-IDENT c = λ T. asks-other (rule26 (tree_of T.body.view) T.body.item c.args.s) c.args.p (rec 26 c.args.p 0) (λ e. c.if-kind-ne-IDENT.true (c.kind.ensures T.body.view ∙ e))
-
-pub at-requires : goal.at-requires
-at-requires c =
-    let is-ident : (W : View c.args.nodes.now c.args.base) → (tree_of W).kind c.args.p ≡ 35 = λ W. sym (c.kind.ensures W) ∙ c.if-kind-ne-IDENT.false in
-    let W = c.requires.0.body.view in record { view = W; here = c.requires.1; carries = inr (is-ident W) }
 
 pub returns : goal.returns
 returns c =

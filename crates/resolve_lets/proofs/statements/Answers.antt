@@ -1,5 +1,4 @@
 -- `statements` meets its contract: a walk from statement to statement, in each one a sweep over its Idents.
-use native.Mathlib.Omega.{arith}
 use mathlib.Core.Path.{refl, sym, ◌∙◌}
 use Rattle.rules.specs.Sweep.{has}
 use Rattle.records.proofs.Laws.{held_all, held-as, added-by, added-as, added-join}
@@ -17,29 +16,6 @@ loop-s-init c =
     let e = c.into_iter-s-iterator.ensures.into_iter_gives in
     let b = c.all-s-items.ensures in
     (begun-to e b.0 (b.1 W ∙ sym (upto_is W)), rw (at-first e b.0) (steps-start h))
-
-pub idents-total-requires : goal.idents-total-requires
-idents-total-requires c =
-    let i = c.loop-s.invariant in
-    let t = turn {t = c.next.new.self} i.0 c.in-Some.ensures.steps in
-    let w = i.1.walk in
-    let f = w.sweep.few in
-    let u = w.span.under in
-    let n = c.requires.1 in
-    let e = c.requires.2 in
-    (c.requires.0.scope, t.here, omega arith, omega arith)
-
-pub let_names-total-requires : goal.let_names-total-requires
-let_names-total-requires c =
-    let i = c.loop-s.invariant in
-    let t = turn {t = c.next.new.self} i.0 c.in-Some.ensures.steps in
-    let w = i.1.walk in
-    let f = w.sweep.few in
-    let u = w.span.under in
-    let n = c.requires.1 in
-    let m = c.idents-total.ensures.few in
-    let e = c.requires.2 in
-    (c.requires.0, t.here, omega arith, omega arith)
 
 pub loop-s-preserved : goal.loop-s-preserved
 unfolding all_in has

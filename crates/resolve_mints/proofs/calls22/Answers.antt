@@ -1,7 +1,7 @@
 -- `calls22` meets its contract: one sweep over the nodes that are lent, which all stand in the entry that is told.
 use native.Mathlib.Omega.{arith}
-use Rattle.records.proofs.Laws.{asked, held_all}
-use Rattle.records.proofs.Sweep.{sweep-again, sweep-long}
+use Rattle.records.proofs.Laws.{asked}
+use Rattle.records.proofs.Sweep.{sweep-again}
 use Rattle.nodes.proofs.Spans.{span-whole, upto_is, whole-starts, whole-swept}
 use Rattle.resolve_mints.proofs.calls22.Goals as goal
 
@@ -16,9 +16,6 @@ loop-p-preserved c =
 
 pub loop-p-init : goal.loop-p-init
 loop-p-init c = whole-starts c.requires.0.view
-
-pub shape_of-out : goal.shape_of-out
-shape_of-out c = sweep-long c.loop-p.invariant.1 (held_all _ c.requires.0)
 
 pub returns : goal.returns
 returns c = whole-swept (λ h. h.seen.view) c.loop-p.invariant c.loop-p-test.false

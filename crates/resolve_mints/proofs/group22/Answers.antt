@@ -13,6 +13,3 @@ returns-then-not-many_assets c = added-nothing (λ T. few-22 (tree_of T.view) (s
 
 pub returns : goal.returns
 returns c = added-as (λ T. many-22 (tree_of T.view) (sym (c.many_assets.ensures T.view) ∙ c.if-not-many_assets.false)) c.mint_calls.ensures
-
-pub many_assets-requires : goal.many_assets-requires
-many_assets-requires c = (c.requires.0.view, c.requires.1)

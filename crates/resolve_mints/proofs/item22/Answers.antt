@@ -19,9 +19,6 @@ returns-then-not-is_bodied c =
     let told : (W : View c.args.nodes.now 0) → has ((tree_of W).kind c.args.item) bodied ≡ c.is_bodied.result = λ W. ap (λ (k : ℕ). has k bodied) (sym (c.kind-kind.ensures W)) ∙ sym c.is_bodied.ensures in
     added-nothing (λ T. keep-none _ _ (told T.view ∙ c.if-not-is_bodied.true))
 
-pub statements-body-requires : goal.statements-body-requires
-statements-body-requires c = let W = c.requires.0.view in record { view = W; here = c.requires.1; first = c.first_statement-first.ensures W }
-
 pub calls22-requires : goal.calls22-requires
 calls22-requires c =
     let P = c.requires in
