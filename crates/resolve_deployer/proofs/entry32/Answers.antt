@@ -13,9 +13,6 @@ use Rattle.resolve_deployer.proofs.Deployer.{body-32, lent-range, lent-table, ta
 use Rattle.rules.specs.Resolve.{deployer_in, rule32}
 use Rattle.resolve_deployer.proofs.entry32.Goals as goal
 
-pub first_statement-first-requires : goal.first_statement-first-requires
-first_statement-first-requires c = let E = c.requires.1 in (c.requires.0.view, E.here, E.low)
-
 pub signers-signed-requires : goal.signers-signed-requires
 signers-signed-requires c =
     let head : Head c.args.nodes.now 0 c.args.entry c.first_statement-first.result = let W = c.requires.0.view in let E = c.requires.1 in record { view = W; here = E.here; positive = E.low; is_entry = E.is W; first = c.first_statement-first.ensures W } in
@@ -57,6 +54,3 @@ returns c =
     (λ T. let W = T.view in body-32 W E.here E.low (E.is W) (c.first_statement-first.ensures W) (c.end-end.ensures W))
     c.words-said.ensures)
     c.clauses32.ensures))
-
-pub end-end-requires : goal.end-end-requires
-end-end-requires c = c.requires.1.here

@@ -24,12 +24,6 @@ returns-then-not-same_node c =
 pub returns : goal.returns
 returns c = λ W. let a = c.end-e.ensures W in let f = c.end-f.ensures W in let q = c.if-e-j.false in let g = c.loop-d-test.false in let h = c.loop-d.invariant.0 in type-same (tree_of W) c.args.i c.args.j c.loop-d.d (omega arith) (omega arith) (omega arith) (c.loop-d.invariant.1 W)
 
-pub overflow_add-e : goal.overflow_add-e
-overflow_add-e c = let P = c.requires in let a = c.end-e.ensures P.0 in let f = (few-nodes P.0 P.1).1 in omega arith
-
-pub overflow_add-f : goal.overflow_add-f
-overflow_add-f c = let P = c.requires in let a = c.end-f.ensures P.0 in let f = (few-nodes P.0 P.2).1 in omega arith
-
 pub overflow_sub-n : goal.overflow_sub-n
 overflow_sub-n c = let P = c.requires in let a = c.end-e.ensures P.0 in let f = (past P.0 P.1).0 in omega arith
 

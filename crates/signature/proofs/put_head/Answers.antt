@@ -1,9 +1,8 @@
 -- `put_head` meets its contract: an IntLit, a MofN, or the Name of a type.
-use native.Mathlib.Omega.{arith}
 use mathlib.Core.Path.{◌≡◌, sym, ◌∙◌}
 use mathlib.Core.Logic.{inl, inr}
 use Rattle.nodes.specs.Shown.{View, tree_of}
-use Rattle.signature.proofs.Laws.{room_as, wrote_as, wrote-length}
+use Rattle.signature.proofs.Laws.{room_as, wrote_as}
 use Rattle.signature.proofs.Reading.{named-so, name-first, head-number, head-quorum, head-name}
 use Rattle.signature.proofs.put_head.Goals as goal
 
@@ -28,15 +27,3 @@ pub returns : goal.returns
 returns c =
     let named : (W : View c.args.nodes.now c.args.base) → (tree_of W).kind c.args.y ≡ 11 = λ W. let P = c.requires in sym (c.kind-k.ensures W) ∙ named-so (c.kind-k.ensures P.texts.view) P.is_type c.if-k-eq12.false c.if-k-eq13.false in
     λ T. wrote_as (sym (head-name (tree_of T.view) c.args.y (named T.view))) (c.put_text-2.ensures T)
-
-pub shape_of-out-then-k-eq12 : goal.shape_of-out-then-k-eq12
-shape_of-out-then-k-eq12 c = wrote-length (c.put_text.ensures c.requires.texts)
-
-pub shape_of-out-then-k-eq13 : goal.shape_of-out-then-k-eq13
-shape_of-out-then-k-eq13 c = wrote-length (c.put_quorum.ensures c.requires.texts)
-
-pub overflow_add-y : goal.overflow_add-y
-overflow_add-y c = let h = c.requires.there.2 in omega arith
-
-pub shape_of-out : goal.shape_of-out
-shape_of-out c = wrote-length (c.put_text-2.ensures c.requires.texts)

@@ -1,21 +1,14 @@
 -- `put_quorum` meets its contract: three texts, one after another.
-use native.Mathlib.Omega.{arith}
 use mathlib.Core.Logic.{inl}
 use Rattle.signature.proofs.Laws.{room-front, room-rest, wrote_then}
 use Rattle.signature.proofs.Reading.{quorum-first, quorum-second}
 use Rattle.signature.proofs.put_quorum.Goals as goal
-
-pub overflow_add-y : goal.overflow_add-y
-overflow_add-y c = let h = c.requires.there.2 in omega arith
 
 pub put_text-after_m-requires : goal.put_text-after_m-requires
 put_text-after_m-requires c = let C = c.requires in let f = quorum-first C.texts.view C.there C.is_quorum in record { texts = C.texts; there = f.0; carries = inl f.1; room = room-front _ C.room }
 
 pub put_all-after_of-requires : goal.put_all-after_of-requires
 put_all-after_of-requires c = let C = c.requires in room-front _ (room-rest _ C.room (c.put_text-after_m.ensures C.texts))
-
-pub overflow_add-y-2 : goal.overflow_add-y-2
-overflow_add-y-2 c = let h = c.requires.there.2 in omega arith
 
 pub put_text-requires : goal.put_text-requires
 put_text-requires c =

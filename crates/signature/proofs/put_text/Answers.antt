@@ -9,6 +9,3 @@ put_name-requires c = let C = c.requires in let l = lies C.there C.texts C.carri
 
 pub returns : goal.returns
 returns c = λ T. wrote_as (text-is c.requires.there T (c.name-x.ensures T.view)) c.put_name.ensures
-
-pub name-x-requires : goal.name-x-requires
-name-x-requires c = c.requires.there

@@ -8,7 +8,7 @@ use Rattle.nodes.specs.Shown.{View, In, tree_of}
 use Rattle.nodes.specs.declared.walk.Children.{Children}
 use Rattle.nodes.proofs.Iterated.{Turn, begun, at-first, ends-at, turn, ended}
 use Rattle.signature.specs.Texts.{params_from}
-use Rattle.signature.proofs.Laws.{goes_refl, goes-trans, goes-as, goes_end, goes-length, goes_on, room-comma, room-item}
+use Rattle.signature.proofs.Laws.{goes_refl, goes-trans, goes-as, goes_end, goes_on, room-comma, room-item}
 use Rattle.signature.proofs.Reading.{kinds-agree, params-from, params_none, param-type-in, param-more, param-next, param-past}
 use Rattle.signature.proofs.write_params.Goals as goal
 
@@ -96,18 +96,3 @@ returns c = λ T.
     let d = ends-at c.args.e c.into_iter-param-iterator.ensures.into_iter_gives c.from-param-items.ensures.1 W in
     let g = ended i.0 c.in-None.ensures.steps.3 in
     goes_end (goes-trans (i.4 T) (goes-as (params_none W P.there (kinds-agree W P.texts.view P.there ∙ P.is_entry) l.param-iterator.rest.at (i.3 W) (λ h k. absurd (omega arith)))))
-
-pub from-param-items-requires : goal.from-param-items-requires
-from-param-items-requires c = (c.requires.texts.view, c.requires.there, omega arith)
-
-pub kind-requires : goal.kind-requires
-kind-requires c = let i = c.loop-param.invariant in let t = turn {t = c.next.new.self} i.0 c.in-Some.ensures.steps in t.here
-
-pub shape_of-out-then-kind-ne10 : goal.shape_of-out-then-kind-ne10
-shape_of-out-then-kind-ne10 c = goes-length (c.loop-param.invariant.4 c.requires.texts)
-
-pub overflow_add-e : goal.overflow_add-e
-overflow_add-e c = let h = c.requires.there.2 in omega arith
-
-pub shape_of-out : goal.shape_of-out
-shape_of-out c = goes-length (c.loop-param.invariant.4 c.requires.texts)
