@@ -11,4 +11,4 @@ abbrev pub invariant-loop-item : goal.invariant-loop-item
 invariant-loop-item l =
     let s = l.initial.item-iterator in
     Over l.nodes 0 s.to l.item-iterator × Span l.nodes 0 1 s.to × (1 ≤ l.item-iterator.at) × (l.item-iterator.at ≤ s.to) × (4 * l.total < l.item-iterator.at)
-    × ((T : LinearTables l.nodes l.words l.reader l.initial.burned l.initial.places l.initial.first l.initial.last l.initial.tallies) → Clean T.known.view.image l.burned l.places l.first l.last l.tallies × Clear l.item-iterator.at l.consumers × Cutting T.known.view.image l.table l.total l.item-iterator.at)
+    × ((T : LinearTables l.nodes l.words l.reader l.initial.tables.burned l.initial.tables.places l.initial.tables.first l.initial.tables.last l.initial.tables.tallies) → Clean T.known.view.image l.tables.burned l.tables.places l.tables.first l.tables.last l.tables.tallies × Clear l.item-iterator.at l.tables.consumers × Cutting T.known.view.image l.table l.total l.item-iterator.at)
