@@ -16,7 +16,8 @@ use Rattle.places.proofs.Noting.{places-none}
 use Rattle.linear_occurrences.specs.Counted.{Clear, is_reader}
 use Rattle.linear_parts.specs.declared.Words.{Words}
 use Rattle.linear_rows.specs.Tallies.{Blank}
-use Rattle.linear.specs.Seen.{LookedWords, LinearTables, Clean}
+use Rattle.linear.specs.declared.Tables.{Tables}
+use Rattle.linear.specs.Seen.{LookedWords, LinearTables, Clean, fresh_tables}
 
 -- no node has a consumer
 pub clear-all : Clear 1 (replicate 2048 0)
@@ -50,6 +51,15 @@ tables-of L n f =
         blank = blank-all;
       };
     }
+
+-- the same, of tables with nothing in them
+abbrev pub fresh-of : {nodes : List ℕ} {all : AllWords} {words : Words} {reader : List Bool} {t : Tables} → t ≡ fresh_tables → (L : LookedWords nodes all)
+    → ((s : List ℕ) → WordsOf s all → Numbered s Q_Asset words.asset × Numbered s split words.split × Numbered s mint words.mint)
+    → ((s : List ℕ) → refusal s ≡ 0 → WordsOf s all → Marks s (λ w. false) (replicate 1024 false) → Marks s is_reader reader)
+    → LinearTables nodes words reader t.burned t.places t.first t.last t.tallies
+fresh-of e L n f =
+    let T = tables-of L n f in
+    record { known = T.known; root = T.root; reader_marks = T.reader_marks; clean = rw e T.clean }
 
 -- the tables with others that are clean
 abbrev pub cleaned : {nodes : List ℕ} {words : Words} {reader burned burned' : List Bool} {places first last tallies places' first' last' tallies' : List ℕ} (T : LinearTables nodes words reader burned places first last tallies)

@@ -1,5 +1,5 @@
 -- What the pass is lent from entry to entry, and what the rows of an entry hold ("Linear" of document 01).
-use Rattle.std.specs.Prelude.{ℕ, ◌≤◌, ◌≡◌, Bool, false, List, [], ltb, length, get_or}
+use Rattle.std.specs.Prelude.{ℕ, ◌≤◌, ◌≡◌, Bool, false, List, [], ltb, length, get_or, replicate}
 use Rattle.image.specs.Maxima.{max_rows}
 use Rattle.image.specs.Pick.{pick}
 use Rattle.rules.specs.Sweep.{keep, has}
@@ -15,6 +15,7 @@ use Rattle.places.specs.Places.{Places}
 use Rattle.linear_occurrences.specs.Counted.{is_reader, Clear}
 use Rattle.linear_parts.specs.declared.Words.{Words}
 use Rattle.linear_parts.specs.Parts.{KnownWords, rows_of, first_row, last_row}
+use Rattle.linear.specs.declared.Tables.{Tables}
 use Rattle.linear_rows.specs.Tallies.{Tallied, Blank}
 
 -- what the pass is lent: the nodes of an admitted image, and the numbers of the words that the rules mention
@@ -76,3 +77,14 @@ abbrev pub Tallies-entry : {nodes : List ℕ} {words : Words} {e : ℕ} {reader 
 Tallies-entry {e = e} T burned consumers tallies =
     Marks T.known.view.image (λ w. false) burned × Clear ((tree_of T.known.view).end e) consumers
     × Tallied (row_marks (tree_of T.known.view) e) (row_uses (tree_of T.known.view) e) tallies
+
+-- the tables with nothing in them
+abbrev pub fresh_tables : Tables
+fresh_tables = record {
+  burned = replicate 1024 false;
+  consumers = replicate 2048 0;
+  places = replicate 511 0;
+  first = replicate 1024 0;
+  last = replicate 1024 0;
+  tallies = replicate 1533 0;
+}

@@ -1,12 +1,12 @@
 // The linear pass: codes 60, 61 and 62 of document 01, entry by entry, as the pass's part of the list.
 #![tactic(auto)]
 
-ghost use Rattle.std.specs.Prelude.{◌*◌, ◌<◌, ◌^◌};
+ghost use Rattle.std.specs.Prelude.{◌≡◌, ◌*◌, ◌<◌, ◌^◌};
 ghost use Rattle.rules.specs.Linear.{linear};
 ghost use Rattle.records.specs.Records.{Adds, on};
 ghost use Rattle.nodes.specs.Shown.{In, tree_of};
 ghost use Rattle.linear_occurrences.specs.Counted.{Clear};
-ghost use Rattle.linear.specs.Seen.{LookedWords, RowsNoted, Tallies-entry, LinearTables, CleansRows, seen_linear, item_linear};
+ghost use Rattle.linear.specs.Seen.{LookedWords, RowsNoted, Tallies-entry, LinearTables, CleansRows, fresh_tables, seen_linear, item_linear};
 
 use image::Image;
 use linear_occurrences::Consumers;
@@ -15,6 +15,33 @@ use linear_rows::Tallies;
 use linear_tracked::Cells;
 use nodes::{Children, ENTRY, Marks};
 use places::Places;
+
+// What the pass is lent from entry to entry: the names that an entry burns, what takes each node, the places of its rows, for each name the first and the last row, and the tallies of the rows.
+#[derive(Drop)]
+pub struct Tables {
+    pub burned: Marks,
+    pub consumers: Consumers,
+    pub places: Cells,
+    pub first: Places,
+    pub last: Places,
+    pub tallies: Tallies,
+}
+
+impl Tables {
+    // With nothing in them.
+    pub fn new() -> Tables
+        ensures { result ≡ fresh_tables }
+    {
+        Tables {
+            burned: [false; Image::NAMES],
+            consumers: [0; Image::NODES],
+            places: [0; 511],
+            first: [0; Image::NAMES],
+            last: [0; Image::NAMES],
+            tallies: [0; 1533],
+        }
+    }
+}
 
 // The marks and the counted occurrences of an entry on its rows.
 pub fn tally(
@@ -44,31 +71,43 @@ fn entry(
     nodes: &[u8],
     item: usize,
     reader: &Marks,
-    burned: &mut Marks,
-    consumers: &mut Consumers,
-    places: &mut Cells,
-    first: &mut Places,
-    last: &mut Places,
-    tallies: &mut Tallies,
+    tables: &mut Tables,
     out: &mut [u16],
     count: usize,
 ) -> usize
-    requires { LinearTables nodes.now words reader.now burned.old places.old first.old last.old tallies.old × In nodes.now 0 item × (0 < item) × Clear item consumers.old × (count < 2 ^ 49) }
-    ensures adds { Adds (seen_linear (item_linear item) nodes.now words reader.now burned.old places.old first.old last.old tallies.old) 3070 out.old out.new count result }
-    ensures cleans_rows { CleansRows item nodes.now words reader.now burned.old burned.new consumers.old consumers.new places.old places.new first.old first.new last.old last.new tallies.old tallies.new }
+    requires { LinearTables nodes.now words reader.now tables.old.burned tables.old.places tables.old.first tables.old.last tables.old.tallies × In nodes.now 0 item × (0 < item) × Clear item tables.old.consumers × (count < 2 ^ 49) }
+    ensures adds { Adds (seen_linear (item_linear item) nodes.now words reader.now tables.old.burned tables.old.places tables.old.first tables.old.last tables.old.tallies) 3070 out.old out.new count result }
+    ensures cleans_rows { CleansRows item nodes.now words reader.now tables.old.burned tables.new.burned tables.old.consumers tables.new.consumers tables.old.places tables.new.places tables.old.first tables.new.first tables.old.last tables.new.last tables.old.tallies tables.new.tallies }
 {
     if nodes::kind(nodes, 0, item) != ENTRY {
         return count;
     }
-    let tracked = linear_tracked::track(words, nodes, item, places, first, last, out, count);
+    let tracked = linear_tracked::track(
+        words,
+        nodes,
+        item,
+        &mut tables.places,
+        &mut tables.first,
+        &mut tables.last,
+        out,
+        count,
+    );
     let n = tracked.rows;
     let aliased = tracked.count;
     tally(
-        words, nodes, item, reader, burned, consumers, first, last, tallies,
+        words,
+        nodes,
+        item,
+        reader,
+        &mut tables.burned,
+        &mut tables.consumers,
+        &tables.first,
+        &tables.last,
+        &mut tables.tallies,
     );
-    let total = linear_rows::judge(item, n, places, tallies, out, aliased);
-    linear_tracked::untrack(n, nodes, places, first);
-    linear_tracked::untrack(n, nodes, places, last);
+    let total = linear_rows::judge(item, n, &tables.places, &mut tables.tallies, out, aliased);
+    linear_tracked::untrack(n, nodes, &tables.places, &mut tables.first);
+    linear_tracked::untrack(n, nodes, &tables.places, &mut tables.last);
     total
 }
 
@@ -77,22 +116,15 @@ fn entries(
     words: Words,
     nodes: &[u8],
     reader: &Marks,
-    burned: &mut Marks,
-    consumers: &mut Consumers,
-    places: &mut Cells,
-    first: &mut Places,
-    last: &mut Places,
-    tallies: &mut Tallies,
+    tables: &mut Tables,
     out: &mut [u16],
 ) -> usize
-    requires { LinearTables nodes.now words reader.now burned.old places.old first.old last.old tallies.old × Clear 1 consumers.old }
-    ensures { Adds (seen_linear linear nodes.now words reader.now burned.old places.old first.old last.old tallies.old) (3070 * 2048) out.old out.new 0 result }
+    requires { LinearTables nodes.now words reader.now tables.old.burned tables.old.places tables.old.first tables.old.last tables.old.tallies × Clear 1 tables.old.consumers }
+    ensures { Adds (seen_linear linear nodes.now words reader.now tables.old.burned tables.old.places tables.old.first tables.old.last tables.old.tallies) (3070 * 2048) out.old out.new 0 result }
 {
     let mut total = 0;
     for item in Children::of(nodes, 0, 0) {
-        total = entry(
-            words, nodes, item, reader, burned, consumers, places, first, last, tallies, out, total,
-        );
+        total = entry(words, nodes, item, reader, tables, out, total);
     }
     total
 }
@@ -105,22 +137,6 @@ pub fn list(nodes: &[u8], words: names::Words, out: &mut [u16]) -> usize
     let asset_words = linear_parts::asset_words(words);
     let mut reader = [false; Image::NAMES];
     linear_occurrences::mark_readers(words, &mut reader);
-    let mut burned = [false; Image::NAMES];
-    let mut consumers = [0u16; Image::NODES];
-    let mut places = [0u16; 511];
-    let mut first = [0u16; Image::NAMES];
-    let mut last = [0u16; Image::NAMES];
-    let mut tallies = [0u16; 1533];
-    entries(
-        asset_words,
-        nodes,
-        &reader,
-        &mut burned,
-        &mut consumers,
-        &mut places,
-        &mut first,
-        &mut last,
-        &mut tallies,
-        out,
-    )
+    let mut tables = Tables::new();
+    entries(asset_words, nodes, &reader, &mut tables, out)
 }

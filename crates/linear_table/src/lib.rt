@@ -12,7 +12,7 @@ ghost use Rattle.linear_table.specs.declared.Row.{Row};
 ghost use Rattle.linear_table.specs.Table.{stored, Holds, row_by, rows_by, entry60s, First60, ItemStands, ItemStops, Cut, refused_table, TableOf};
 
 use image::Image;
-use linear_occurrences::Consumers;
+use linear::Tables;
 use linear_parts::Words;
 use linear_rows::Tallies;
 use linear_tracked::Cells;
@@ -109,30 +109,40 @@ fn entry(
     nodes: &[u8],
     item: usize,
     reader: &Marks,
-    burned: &mut Marks,
-    consumers: &mut Consumers,
-    places: &mut Cells,
-    first: &mut Places,
-    last: &mut Places,
-    tallies: &mut Tallies,
+    tables: &mut Tables,
     table: &mut Table,
     total: usize,
 ) -> Result<usize, u16>
-    requires { LinearTables nodes.now words reader.now burned.old places.old first.old last.old tallies.old × In nodes.now 0 item × (0 < item) × Clear item consumers.old × (4 * total < item) }
-    ensures { (T : LinearTables nodes.now words reader.now burned.old places.old first.old last.old tallies.old) → MatchResult result
-        (λ n. ItemStands T.known.view.image item total table.old table.new burned.new consumers.new places.new first.new last.new tallies.new n)
+    requires { LinearTables nodes.now words reader.now tables.old.burned tables.old.places tables.old.first tables.old.last tables.old.tallies × In nodes.now 0 item × (0 < item) × Clear item tables.old.consumers × (4 * total < item) }
+    ensures { (T : LinearTables nodes.now words reader.now tables.old.burned tables.old.places tables.old.first tables.old.last tables.old.tallies) → MatchResult result
+        (λ n. ItemStands T.known.view.image item total table.old table.new tables.new.burned tables.new.consumers tables.new.places tables.new.first tables.new.last tables.new.tallies n)
         (λ alias. ItemStops T.known.view.image item table.old table.new alias) }
 {
     if nodes::kind(nodes, 0, item) != ENTRY {
         return Ok(total);
     }
-    let n = track_entry(words, nodes, item, places, first, last)?;
+    let n = track_entry(
+        words,
+        nodes,
+        item,
+        &mut tables.places,
+        &mut tables.first,
+        &mut tables.last,
+    )?;
     linear::tally(
-        words, nodes, item, reader, burned, consumers, first, last, tallies,
+        words,
+        nodes,
+        item,
+        reader,
+        &mut tables.burned,
+        &mut tables.consumers,
+        &tables.first,
+        &tables.last,
+        &mut tables.tallies,
     );
-    stand(n, nodes, places, tallies, table, total);
-    linear_tracked::untrack(n, nodes, places, first);
-    linear_tracked::untrack(n, nodes, places, last);
+    stand(n, nodes, &tables.places, &mut tables.tallies, table, total);
+    linear_tracked::untrack(n, nodes, &tables.places, &mut tables.first);
+    linear_tracked::untrack(n, nodes, &tables.places, &mut tables.last);
     Ok(total + n)
 }
 
@@ -141,24 +151,16 @@ fn entries(
     words: Words,
     nodes: &[u8],
     reader: &Marks,
-    burned: &mut Marks,
-    consumers: &mut Consumers,
-    places: &mut Cells,
-    first: &mut Places,
-    last: &mut Places,
-    tallies: &mut Tallies,
+    tables: &mut Tables,
     table: &mut Table,
 ) -> Result<(), u16>
-    requires { LinearTables nodes.now words reader.now burned.old places.old first.old last.old tallies.old × Clear 1 consumers.old × Holds [] table.old }
-    ensures { (T : LinearTables nodes.now words reader.now burned.old places.old first.old last.old tallies.old) → MatchResult result
+    requires { LinearTables nodes.now words reader.now tables.old.burned tables.old.places tables.old.first tables.old.last tables.old.tallies × Clear 1 tables.old.consumers × Holds [] table.old }
+    ensures { (T : LinearTables nodes.now words reader.now tables.old.burned tables.old.places tables.old.first tables.old.last tables.old.tallies) → MatchResult result
         (λ _. Cut T.known.view.image table.new 0) (λ alias. Cut T.known.view.image table.new alias) }
 {
     let mut total = 0;
     for item in Children::of(nodes, 0, 0) {
-        total = entry(
-            words, nodes, item, reader, burned, consumers, places, first, last, tallies, table,
-            total,
-        )?;
+        total = entry(words, nodes, item, reader, tables, table, total)?;
     }
     Ok(())
 }
@@ -173,25 +175,9 @@ fn tracked(image: &[u8], head: Image) -> Table
     let asset_words = linear_parts::asset_words(words);
     let mut reader = [false; Image::NAMES];
     linear_occurrences::mark_readers(words, &mut reader);
-    let mut burned = [false; Image::NAMES];
-    let mut consumers = [0u16; Image::NODES];
-    let mut places = [0u16; 511];
-    let mut first = [0u16; Image::NAMES];
-    let mut last = [0u16; Image::NAMES];
-    let mut tallies = [0u16; 1533];
+    let mut tables = Tables::new();
     let mut table = [0u16; 2046];
-    let stopped = entries(
-        asset_words,
-        nodes,
-        &reader,
-        &mut burned,
-        &mut consumers,
-        &mut places,
-        &mut first,
-        &mut last,
-        &mut tallies,
-        &mut table,
-    );
+    let stopped = entries(asset_words, nodes, &reader, &mut tables, &mut table);
     table[ALIAS] = match stopped {
         Ok(()) => 0,
         Err(alias) => alias,

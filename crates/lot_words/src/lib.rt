@@ -28,6 +28,7 @@ fn tell(out: &mut [u16], count: usize, node: usize, beside: u16) -> usize
 }
 
 // The first Burns clause that gives the mark of the parameter p; 0 where none does.
+// A number and no Option: it is a cell of the table of clauses as it stands, in which 0 is no clause.
 fn clause_of(asset: usize, nodes: &[u8], entry: usize, p: usize, clauses: &Places) -> usize
     requires { Clauses nodes.now entry asset clauses.now × In nodes.now 0 p × ((W : View nodes.now 0) → (tree_of W).kind p ≡ 10) }
     ensures { (result < 2048) × ((T : Clauses nodes.now entry asset clauses.now) → result ≡ pick (is_burned (tree_of T.view) entry p) (clause_of (tree_of T.view) entry p) 0) }

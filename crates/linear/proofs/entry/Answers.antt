@@ -1,14 +1,11 @@
 -- `entry` meets its contract: its rows are tracked and the 60s laid, marks and uses counted, each row judged, and the tables cleaned.
 use borrow.Author.Rules.{rules}
 use native.Mathlib.Omega.{arith}
-use mathlib.Core.Path.{◌≡◌, sym, ◌∙◌}
+use mathlib.Core.Path.{◌∙◌}
 use Rattle.records.proofs.Laws.{added-nothing}
 use Rattle.records.proofs.Sweep.{keep-none, has-not}
-use Rattle.nodes.specs.Shown.{tree_of}
 use Rattle.nodes.proofs.Parts.{past}
 use Rattle.places.specs.declared.Note.TheVariants.{First, Last}
-use Rattle.linear.specs.Seen.{LinearTables}
-use Rattle.linear_tracked.specs.Rows.{Unrowed}
 use Rattle.linear.proofs.Judged.{blanked}
 use Rattle.linear_occurrences.proofs.Ahead.{clear_later}
 use Rattle.linear.proofs.Between.{kind-of, unrowed-of, placed_of, filled_of, item-laid}

@@ -1,6 +1,5 @@
 -- `entries` meets its contract: a walk from item to item, with clean tables between them, up to the first that has a 60.
 use native.Mathlib.Omega.{arith}
-use Prim.Native.Nat.{◌<◌, ◌≤◌}
 use mathlib.Core.Path.{refl}
 use Rattle.rules.specs.Sweep.{has}
 use Rattle.rules.specs.Tree.{entry}

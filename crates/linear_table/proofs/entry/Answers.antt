@@ -1,6 +1,5 @@
 -- `entry` meets its contract: its rows are tracked; where it has no 60, marks and uses are counted, the rows stored, and the tables cleaned.
 use native.Mathlib.Omega.{arith}
-use Prim.Native.Nat.{◌+◌, ◌≤◌}
 use mathlib.Core.Path.{ap, ◌∙◌}
 use mathlib.Core.List.{List, ◌++◌}
 use Rattle.std.proofs.lemmas.Result.{err_from_is_err_and}
