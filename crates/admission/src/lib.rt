@@ -13,6 +13,7 @@ ghost use Rattle.image.specs.Admit.{body_refusal, refusal, admission_of};
 
 use children::{KINDS, Kinds, MAY_END, Nexts, ROW, TEXT};
 use image::{Image, Refusal};
+use steps::{Parts, Stack};
 
 // Refusal 7, where `deepest` is what the deepest node has of ancestors besides the contract.
 fn check_depth(deepest: usize) -> Result<(), Refusal>
@@ -28,20 +29,15 @@ fn check_depth(deepest: usize) -> Result<(), Refusal>
 fn walk(
     kinds: &Kinds,
     nexts: &Nexts,
-    nodes: &[u8],
-    names: &[u8],
-    text: &[u8],
-    n: usize,
-    m: usize,
-    states: &mut [u8; Image::NODES],
-    ends: &mut [u16; Image::NODES],
+    parts: &Parts,
+    stack: &mut Stack,
     marks: &mut [bool; Image::NAMES + 1],
 ) -> Result<(), Refusal>
-    requires { (n ≤ max_nodes) × (m ≤ max_names) × (16 * n ≤ length nodes.now) × (2 * m + 2 ≤ length names.now) × (names_ok names.now text.now m ≡ true) × (kinds.now ≡ kind_table) × (nexts.now ≡ next_states) × Rooted nodes.now names.now text.now n m × WalkTables nodes.now states.old ends.old marks.old }
-    ensures value { refused_by result ≡ pick (every (node_ok nodes.now names.now text.now n m) n) (pick (depth_ok nodes.now n) 0 7) 6 }
-    ensures false_after { refused_by result ≡ 0 → (k : ℕ) → k < max_names → get_or marks.new (k + 1) false ≡ used_in nodes.now n k }
+    requires { (parts.now.n ≤ max_nodes) × (parts.now.m ≤ max_names) × (16 * parts.now.n ≤ length parts.now.nodes.now) × (2 * parts.now.m + 2 ≤ length parts.now.names.now) × (names_ok parts.now.names.now parts.now.text.now parts.now.m ≡ true) × (kinds.now ≡ kind_table) × (nexts.now ≡ next_states) × Rooted parts.now.nodes.now parts.now.names.now parts.now.text.now parts.now.n parts.now.m × WalkTables parts.now.nodes.now stack.old.states stack.old.ends marks.old }
+    ensures value { refused_by result ≡ pick (every (node_ok parts.now.nodes.now parts.now.names.now parts.now.text.now parts.now.n parts.now.m) parts.now.n) (pick (depth_ok parts.now.nodes.now parts.now.n) 0 7) 6 }
+    ensures false_after { refused_by result ≡ 0 → (k : ℕ) → k < max_names → get_or marks.new (k + 1) false ≡ used_in parts.now.nodes.now parts.now.n k }
 {
-    let mut p = steps::start(n);
+    let mut p = steps::start(parts.n);
     loop {
         if p.end == p.at {
             if p.state < MAY_END {
@@ -50,52 +46,36 @@ fn walk(
             if p.depth < 1 {
                 return check_depth(p.deepest);
             }
-            p = steps::up(p, states, ends);
+            p = steps::up(p, stack);
         } else {
-            let of = children::facts(kinds, image::kind(nodes, p.at));
-            if !steps::child_ok(nodes, names, text, m, of, p) {
+            let of = children::facts(kinds, image::kind(parts.nodes, p.at));
+            if !steps::child_ok(parts, of, p) {
                 return Err(Refusal::Tree);
             }
-            steps::mark(nodes, p.at, marks);
+            steps::mark(parts.nodes, p.at, marks);
             let after = children::next(nexts, p.state, of % TEXT);
-            p = steps::on(p, after, of / ROW, image::end(nodes, p.at), states, ends);
+            p = steps::on(p, after, of / ROW, image::end(parts.nodes, p.at), stack);
         }
     }
 }
 
 // Refusals 6 and 7, for the whole tree, and a mark for each name that a node has.
-fn tree(
-    nodes: &[u8],
-    names: &[u8],
-    text: &[u8],
-    n: usize,
-    m: usize,
-    marks: &mut [bool; Image::NAMES + 1],
-) -> Result<(), Refusal>
-    requires { (1 ≤ n) × (n ≤ max_nodes) × (m ≤ max_names) × (16 * n ≤ length nodes.now) × (2 * m + 2 ≤ length names.now) × (names_ok names.now text.now m ≡ true) × (marks.old ≡ replicate (max_names + 1) false) }
-    ensures value { refused_by result ≡ pick (tree_ok nodes.now names.now text.now n m) (pick (depth_ok nodes.now n) 0 7) 6 }
-    ensures false_after { refused_by result ≡ 0 → (k : ℕ) → k < max_names → get_or marks.new (k + 1) false ≡ used_in nodes.now n k }
+fn tree(parts: &Parts, marks: &mut [bool; Image::NAMES + 1]) -> Result<(), Refusal>
+    requires { (1 ≤ parts.now.n) × (parts.now.n ≤ max_nodes) × (parts.now.m ≤ max_names) × (16 * parts.now.n ≤ length parts.now.nodes.now) × (2 * parts.now.m + 2 ≤ length parts.now.names.now) × (names_ok parts.now.names.now parts.now.text.now parts.now.m ≡ true) × (marks.old ≡ replicate (max_names + 1) false) }
+    ensures value { refused_by result ≡ pick (tree_ok parts.now.nodes.now parts.now.names.now parts.now.text.now parts.now.n parts.now.m) (pick (depth_ok parts.now.nodes.now parts.now.n) 0 7) 6 }
+    ensures false_after { refused_by result ≡ 0 → (k : ℕ) → k < max_names → get_or marks.new (k + 1) false ≡ used_in parts.now.nodes.now parts.now.n k }
 {
     let kinds = KINDS;
-    if !steps::root_ok(&kinds, nodes, names, text, n, m) {
+    if !steps::root_ok(&kinds, parts) {
         return Err(Refusal::Tree);
     }
-    steps::mark(nodes, 0, marks);
+    steps::mark(parts.nodes, 0, marks);
     let nexts = children::transitions();
-    let mut states = [0u8; Image::NODES];
-    let mut ends = [0u16; Image::NODES];
-    walk(
-        &kinds,
-        &nexts,
-        nodes,
-        names,
-        text,
-        n,
-        m,
-        &mut states,
-        &mut ends,
-        marks,
-    )
+    let mut stack = Stack {
+        states: [0; Image::NODES],
+        ends: [0; Image::NODES],
+    };
+    walk(&kinds, &nexts, parts, &mut stack, marks)
 }
 
 // Refusal 8: the marks of the m names are read.
@@ -126,7 +106,14 @@ fn judge(
         return Err(Refusal::Names);
     }
     let mut marks = [false; Image::NAMES + 1];
-    tree(nodes, names, text, n, m, &mut marks)?;
+    let parts = Parts {
+        nodes,
+        names,
+        text,
+        n,
+        m,
+    };
+    tree(&parts, &mut marks)?;
     if !used_ok(&marks, m) {
         return Err(Refusal::Unused);
     }

@@ -1,12 +1,12 @@
 -- What the answers of the face add to the count, and the laws of the steps through the file.
 use Prim.Native.Nat.{ℕ, zero, suc, ◌+◌, ◌*◌, ◌-◌, ◌<◌, ◌≤◌}
 use mathlib.Core.Path.{◌≡◌, refl, ap, sym, ◌∙◌, subst}
-use mathlib.Core.Bool.{Bool, true, false, not}
+use mathlib.Core.Bool.{Bool, true, false}
 use mathlib.Core.List.{List}
 use native.Mathlib.Omega.{arith}
 use borrow.Author.Tests.{eq-eqb, ne_eqb, lt-ltb, le-ltb}
 use lib.ListN.{length, get_or, take, drop}
-use Rattle.std.specs.Prelude.{Result, Ok, Err}
+use Rattle.std.specs.Prelude.{Result, Ok, Err, Option, Some, None}
 use Rattle.std.specs.Result.{IfOk, OnErr}
 use Rattle.image.specs.Node.{full_word}
 use Rattle.rules.specs.Tree.{Tree}
@@ -27,8 +27,8 @@ use Rattle.replay.specs.declared.ask.Asked.TheVariants as asked
 use Rattle.replay.specs.declared.Step.{Step}
 use Rattle.replay.specs.Differences.{of_verdict, of_reply, of_listed, pass_difference, pass_differences}
 use Rattle.replay.specs.Differences.{verdict_differences, question_difference, question_differences, listed_for, words_for}
-use Rattle.replay.specs.Differences.{words_in, zeros, list_difference, short_difference, lists_differences, step_to}
-use Rattle.replay.specs.Differences.{ends_early, after, steps, name_by, name_step, names_step, answer_differences}
+use Rattle.replay.specs.Differences.{words_in, zeros, list_difference, short_difference, parts_differences, lists_by, lists_differences, step_to}
+use Rattle.replay.specs.Differences.{ends_early, whole, place_of, differ_of, after, steps, name_by, name_step, names_step, answer_differences}
 use Rattle.replay.specs.Differences.{answers_by, answers_step, image_by, image_step, told, name_told, names_told}
 use Rattle.replay.specs.Differences.{answers_told, answers_told_by, image_told, image_told_by}
 
@@ -38,8 +38,8 @@ pub counts-as : {E : Type 0} {a b m k : ℕ} (r : Result ℕ E) → a ≡ b → 
 counts-as (Ok n) e l h = (h.0 ∙ e, omega arith)
 counts-as (Err x) e l h = tt
 
-pub steps-as : {E : Type 0} {a b : Step} (r : Result Step E) → a ≡ b → IfOk r (λ (step : Step). step ≡ a) → IfOk r (λ (step : Step). step ≡ b)
-steps-as r e h = subst (λ (m : Step). IfOk r (λ (step : Step). step ≡ m)) e h
+pub steps-as : {E : Type 0} {a b : Option Step} (r : Result (Option Step) E) → a ≡ b → IfOk r (λ (step : Option Step). step ≡ a) → IfOk r (λ (step : Option Step). step ≡ b)
+steps-as r e h = subst (λ (m : Option Step). IfOk r (λ (step : Option Step). step ≡ m)) e h
 
 pub fails-as : {T E : Type 0} {a b : ℕ} (r : Result T E) → a ≡ b → OnErr r (0 < a) → OnErr r (0 < b)
 fails-as r e h = subst (λ (m : ℕ). OnErr r (0 < m)) e h
@@ -90,46 +90,40 @@ pub short-some : (k : ℕ) (s : List ℕ) {a : Numbers} {r : ℕ} → (k ≡ 0 �
 unfolding short_difference
 short-some k s h e d = simp (ne_eqb k 0 h) (d ∙ ap (difference (head_of 9 0)) e)
 
-pub lists-are : (f : List ℕ) (at k n : ℕ) (s : List ℕ) {whole : Part} {parts : Parts} {a b c d e : ℕ} → Lies whole at k →
+pub lists-are : (f : List ℕ) (at k n : ℕ) (s : List ℕ) {whole : Part} {parts : Parts} {a b c : ℕ} → Lies whole at k →
     parts ≡ parts_of f at k → a ≡ list_difference asked.Whole f whole n s → b ≡ short_difference k s →
-    c ≡ list_difference asked.Resolve f parts.resolve n s → d ≡ list_difference asked.Access f parts.access n s →
-    e ≡ list_difference asked.Linear f parts.linear n s → a + b + c + d + e ≡ lists_differences f at k n s
+    c ≡ parts_differences parts f n s → a + b + c ≡ lists_differences f at k n s
 unfolding lists_differences
-lists-are f at k n s {whole} {parts} l p a b c d e =
+lists-are f at k n s {whole} {parts} {a} {b} {c} l p x y z =
     let w : whole ≡ part_of at k = part-is l in
-    cc
+    let all : lists_by parts f whole n s ≡ lists_by (parts_of f at k) f (part_of at k) n s = cc in
+    let short : short_difference whole.count s ≡ short_difference k s = ap (λ (m : ℕ). short_difference m s) l.1 in
+    let same : a + b + c ≡ lists_by parts f whole n s = omega arith in
+    same ∙ all
 
--- they are the five that are told one after the other
+-- they are what is told one after the other
 pub lists-told : (f : List ℕ) (at k n : ℕ) (s : List ℕ) {whole : Part} {parts : Parts} → Lies whole at k → parts ≡ parts_of f at k →
-    list_difference asked.Whole f whole n s + short_difference k s + list_difference asked.Resolve f parts.resolve n s
-    + list_difference asked.Access f parts.access n s + list_difference asked.Linear f parts.linear n s ≡ lists_differences f at k n s
-lists-told f at k n s l p = lists-are f at k n s l p refl refl refl refl refl
+    list_difference asked.Whole f whole n s + short_difference k s + parts_differences parts f n s ≡ lists_differences f at k n s
+lists-told f at k n s l p = lists-are f at k n s l p refl refl refl
 
 -- The steps
 
-so : (b : Bool) → not b ≡ false → b ≡ true
-so true e = refl
-so false e = sym e
-
-no_more : (b : Bool) → not b ≡ true → b ≡ false
-no_more true e = sym e
-no_more false e = refl
-
-module _ (one : ℕ → Step) where
-  steps_on : (m at d : ℕ) {st : Step} → 0 < m → st ≡ one at → st.whole ≡ true → steps one m at d ≡ steps one (m - 1) st.at
-      (d + st.differ)
+module _ (one : ℕ → Option Step) where
+  steps_on : (m at d : ℕ) {st : Step} → 0 < m → Some st ≡ one at → steps one m at d ≡ steps one (m - 1) st.at (d + st.differ)
   unfolding steps
-  steps_on zero at d l e w = absurd (omega arith)
-  steps_on (suc m) at d {st} l e w =
-      let g : (one at).whole ≡ true = ap (λ (x : Step). x.whole) (sym e) ∙ w in
+  steps_on zero at d l e = absurd (omega arith)
+  steps_on (suc m) at d {st} l e =
+      let g : whole (one at) ≡ true = ap whole (sym e) in
+      let x : place_of (one at) ≡ st.at = ap place_of (sym e) in
+      let y : differ_of (one at) ≡ st.differ = ap differ_of (sym e) in
       let p : suc m - 1 ≡ m = omega arith in
-      let q : steps one (suc m - 1) st.at (d + st.differ) ≡ steps one m (one at).at (d + (one at).differ) = cc in
+      let q : steps one (suc m - 1) st.at (d + st.differ) ≡ steps one m (place_of (one at)) (d + differ_of (one at)) = cc in
       simp g (sym q)
 
-  steps-stop : (m at d : ℕ) {st : Step} → 0 < m → st ≡ one at → st.whole ≡ false → steps one m at d ≡ ends_early
+  steps-stop : (m at d : ℕ) → 0 < m → None ≡ one at → steps one m at d ≡ ends_early
   unfolding steps
-  steps-stop zero at d l e w = absurd (omega arith)
-  steps-stop (suc m) at d {st} l e w = let g : (one at).whole ≡ false = ap (λ (x : Step). x.whole) (sym e) ∙ w in simp g
+  steps-stop zero at d l e = absurd (omega arith)
+  steps-stop (suc m) at d l e = let g : whole (one at) ≡ false = ap whole (sym e) in simp g
 
   steps-over : (m at d : ℕ) → m ≡ 0 → steps one m at d ≡ step_to at d
   unfolding steps
@@ -143,33 +137,33 @@ module _ (one : ℕ → Step) where
   pub stepped-none : (k from : ℕ) → Stepped k from 0 from 0
   stepped-none k from = let e : k - 0 ≡ k = omega arith in ap (λ (m : ℕ). steps one m from 0) (sym e)
 
-  pub stepped-more : (k from i at d : ℕ) {st : Step} → Stepped k from i at d → i < k → st ≡ one at → not st.whole ≡ false →
+  pub stepped-more : (k from i at d : ℕ) {st : Step} → Stepped k from i at d → i < k → Some st ≡ one at →
       Stepped k from (i + 1) st.at (d + st.differ)
-  stepped-more k from i at d {st} S l e w =
+  stepped-more k from i at d {st} S l e =
       let p : k - i - 1 ≡ k - (i + 1) = omega arith in
-      S ∙ steps_on (k - i) at d (omega arith) e (so st.whole w) ∙ ap (λ (m : ℕ). steps one m st.at (d + st.differ)) p
+      S ∙ steps_on (k - i) at d (omega arith) e ∙ ap (λ (m : ℕ). steps one m st.at (d + st.differ)) p
 
-  pub stepped-stop : (k from i at d : ℕ) {st r : Step} → Stepped k from i at d → i < k → st ≡ one at → not st.whole ≡ true →
-      r ≡ ends_early → r ≡ steps one k from 0
-  stepped-stop k from i at d {st} S l e w z = z ∙ sym (S ∙ steps-stop (k - i) at d (omega arith) e (no_more st.whole w))
+  pub stepped-stop : (k from i at d : ℕ) → Stepped k from i at d → i < k → None ≡ one at → None ≡ steps one k from 0
+  stepped-stop k from i at d S l e = sym (S ∙ steps-stop (k - i) at d (omega arith) e)
 
-  pub stepped-all : (k from i at d : ℕ) {r : Step} → Stepped k from i at d → k ≤ i → r ≡ step_to at d → r ≡ steps one k from 0
+  pub stepped-all : (k from i at d : ℕ) {r : Option Step} → Stepped k from i at d → k ≤ i → r ≡ step_to at d → r ≡ steps one k from 0
   stepped-all k from i at d S l z = z ∙ sym (S ∙ steps-over (k - i) at d (omega arith))
 
 -- .. and what is told by them
-module _ (tells : ℕ → ℕ) (one : ℕ → Step) where
+module _ (tells : ℕ → ℕ) (one : ℕ → Option Step) where
   told-first : (m at : ℕ) → 0 < m → tells at ≤ told tells one m at
   unfolding told
   told-first zero at l = absurd (omega arith)
   told-first (suc m) at l = omega arith
 
-  told-on : (m at : ℕ) {st : Step} → 0 < m → st ≡ one at → st.whole ≡ true → told tells one (m - 1) st.at ≤ told tells one m at
+  told-on : (m at : ℕ) {st : Step} → 0 < m → Some st ≡ one at → told tells one (m - 1) st.at ≤ told tells one m at
   unfolding told
-  told-on zero at l e w = absurd (omega arith)
-  told-on (suc m) at {st} l e w =
-      let g : (one at).whole ≡ true = ap (λ (x : Step). x.whole) (sym e) ∙ w in
+  told-on zero at l e = absurd (omega arith)
+  told-on (suc m) at {st} l e =
+      let g : whole (one at) ≡ true = ap whole (sym e) in
+      let x : place_of (one at) ≡ st.at = ap place_of (sym e) in
       let p : suc m - 1 ≡ m = omega arith in
-      let q : told tells one (suc m - 1) st.at ≡ told tells one m (one at).at = cc in
+      let q : told tells one (suc m - 1) st.at ≡ told tells one m (place_of (one at)) = cc in
       simp g (omega arith)
 
   -- what the steps tell that are ahead is told by all of them
@@ -180,11 +174,11 @@ module _ (tells : ℕ → ℕ) (one : ℕ → Step) where
   told-none k from =
       let p : k - 0 ≡ k = omega arith in let e : told tells one (k - 0) from ≡ told tells one k from = cc in omega arith
 
-  pub told-more : (k from i at : ℕ) {st : Step} → Told k from i at → i < k → st ≡ one at → not st.whole ≡ false → Told k from (i + 1) st.at
-  told-more k from i at {st} T l e w =
+  pub told-more : (k from i at : ℕ) {st : Step} → Told k from i at → i < k → Some st ≡ one at → Told k from (i + 1) st.at
+  told-more k from i at {st} T l e =
       let p : k - (i + 1) ≡ k - i - 1 = omega arith in
       let q : told tells one (k - (i + 1)) st.at ≡ told tells one (k - i - 1) st.at = cc in
-      let m = told-on (k - i) at (omega arith) e (so st.whole w) in
+      let m = told-on (k - i) at (omega arith) e in
       omega arith
 
   pub told-here : (k from i at : ℕ) → Told k from i at → i < k → 0 < tells at → 0 < told tells one k from
@@ -193,7 +187,7 @@ module _ (tells : ℕ → ℕ) (one : ℕ → Step) where
 -- One name
 
 module _ (f : List ℕ) (n : ℕ) (s : List ℕ) (at : ℕ) where
-  pub name_ends : {r : Step} → length f - at < 1 → r ≡ ends_early → r ≡ name_step f n s at
+  pub name_ends : {r : Option Step} → length f - at < 1 → r ≡ ends_early → r ≡ name_step f n s at
   unfolding name_step
   name_ends h e = simp (lt-ltb (length f - at) 1 h) e
 
@@ -201,12 +195,12 @@ module _ (f : List ℕ) (n : ℕ) (s : List ℕ) (at : ℕ) where
   unfolding name_step
   name_stepped size h e = simp (le-ltb (length f - at) 1 h) (ap (λ (k : ℕ). name_by f (at + 1) k n s) e)
 
-  pub name-cut : (size : ℕ) {r : Step} → 1 ≤ length f - at → size ≡ get_or f at 0 → length f - (at + 1) < size + 3 → r ≡ ends_early
+  pub name-cut : (size : ℕ) {r : Option Step} → 1 ≤ length f - at → size ≡ get_or f at 0 → length f - (at + 1) < size + 3 → r ≡ ends_early
       → r ≡ name_step f n s at
   name-cut size h e l z =
       let b : name_by f (at + 1) size n s ≡ ends_early = simp (lt-ltb (length f - (at + 1)) (size + 3) l) in z ∙ sym b ∙ name_stepped size h e
 
-  pub name-whole : (size d : ℕ) {r : Step} → 1 ≤ length f - at → size ≡ get_or f at 0 → size + 3 ≤ length f - (at + 1) →
+  pub name-whole : (size d : ℕ) {r : Option Step} → 1 ≤ length f - at → size ≡ get_or f at 0 → size + 3 ≤ length f - (at + 1) →
       d ≡ question_differences f (at + 1 + size) n s (take (at + 1 + size - (at + 1)) (drop (at + 1) f)) → r ≡ step_to
       (at + 1 + size + 3) d →
       r ≡ name_step f n s at
@@ -217,7 +211,7 @@ module _ (f : List ℕ) (n : ℕ) (s : List ℕ) (at : ℕ) where
 
   pub name-told : (size : ℕ) → 1 ≤ length f - at → size ≡ get_or f at 0 → size + 3 ≤ length f - (at + 1) →
       0 < question_differences f (at + 1 + size) n s (take (at + 1 + size - (at + 1)) (drop (at + 1) f)) → 0 < name_told f n s at
-  name-told size h e l t = let q = ap (λ (x : Step). x.differ) (name-whole size _ h e l refl refl) in omega arith
+  name-told size h e l t = let q = ap differ_of (name-whole size _ h e l refl refl) in omega arith
 
 -- The answers on one image
 
@@ -226,13 +220,13 @@ module _ (f : List ℕ) (at : ℕ) (s : List ℕ) where
   unfolding answers_step
   answers_stepped k n e g = ap (λ (k : ℕ). answers_by f at k n s) e ∙ ap (λ (n : ℕ). answers_by f at (full_word f (at + 37)) n s) g
 
-  pub answers-cut : (k n : ℕ) {r : Step} → k ≡ full_word f (at + 37) → n ≡ get_or f at 0 → length f - (at + 41) < record_bytes * k + 1 → r ≡ ends_early
+  pub answers-cut : (k n : ℕ) {r : Option Step} → k ≡ full_word f (at + 37) → n ≡ get_or f at 0 → length f - (at + 41) < record_bytes * k + 1 → r ≡ ends_early
       →
       r ≡ answers_step f at s
   answers-cut k n e g l z =
       let b : answers_by f at k n s ≡ ends_early = simp (lt-ltb (length f - (at + 41)) (record_bytes * k + 1) l) in z ∙ sym b ∙ answers_stepped k n e g
 
-  pub answers-whole : (k n m : ℕ) {a b c d : ℕ} {st : Step} → k ≡ full_word f (at + 37) → n ≡ get_or f at 0 →
+  pub answers-whole : (k n m : ℕ) {a b c d : ℕ} {st : Option Step} → k ≡ full_word f (at + 37) → n ≡ get_or f at 0 →
       record_bytes * k + 1 ≤ length f - (at + 41) → a ≡ pass_differences f (at + 1) n s → b ≡ verdict_differences f (at + 1) n s →
       c ≡ lists_differences f (at + 41) k n s → d ≡ pass_difference linear f (at + 1 + 24) n s → m ≡ get_or f (at + 41 + record_bytes * k) 0 →
       st ≡ names_step f n s m (at + 41 + record_bytes * k + 1) → after (a + b + c + d) st ≡ answers_step f at s
@@ -259,7 +253,7 @@ module _ (f : List ℕ) (at : ℕ) (s : List ℕ) where
 -- One image
 
 module _ (f : List ℕ) (at : ℕ) where
-  pub image-ends : {r : Step} → length f - at < 4 → r ≡ ends_early → r ≡ image_step f at
+  pub image-ends : {r : Option Step} → length f - at < 4 → r ≡ ends_early → r ≡ image_step f at
   unfolding image_step
   image-ends h e = simp (lt-ltb (length f - at) 4 h) e
 
@@ -267,12 +261,12 @@ module _ (f : List ℕ) (at : ℕ) where
   unfolding image_step
   image-by size h e = simp (le-ltb (length f - at) 4 h) (ap (image_by f (at + 4)) e)
 
-  pub image-cut : (size : ℕ) {r : Step} → 4 ≤ length f - at → size ≡ full_word f at → length f - (at + 4) < size + 41 → r ≡ ends_early
+  pub image-cut : (size : ℕ) {r : Option Step} → 4 ≤ length f - at → size ≡ full_word f at → length f - (at + 4) < size + 41 → r ≡ ends_early
       → r ≡ image_step f at
   image-cut size h e l z =
       let b : image_by f (at + 4) size ≡ ends_early = simp (lt-ltb (length f - (at + 4)) (size + 41) l) in z ∙ sym b ∙ image-by size h e
 
-  pub image-whole : (size : ℕ) {r : Step} → 4 ≤ length f - at → size ≡ full_word f at → size + 41 ≤ length f - (at + 4) →
+  pub image-whole : (size : ℕ) {r : Option Step} → 4 ≤ length f - at → size ≡ full_word f at → size + 41 ≤ length f - (at + 4) →
       r ≡ answers_step f (at + 4 + size) (take (at + 4 + size - (at + 4)) (drop (at + 4) f)) → r ≡ image_step f at
   image-whole size h e l z =
       let w = answers_step f (at + 4 + size) (take (at + 4 + size - (at + 4)) (drop (at + 4) f)) in

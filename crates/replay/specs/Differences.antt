@@ -1,6 +1,6 @@
 -- What `replay` counts: how many of the recorded answers are not those that the public face gives by its contracts.
 -- f is the file, `at` a place in it, n the recorded refusal of an image, s the image.
-use Rattle.std.specs.Prelude.{ℕ, zero, suc, ◌+◌, ◌*◌, ◌-◌, Bool, true, false, List, ◌++◌, eqb, ltb, length, get_or, replicate, take, drop}
+use Rattle.std.specs.Prelude.{ℕ, zero, suc, ◌+◌, ◌*◌, ◌-◌, Bool, true, false, List, ◌++◌, eqb, ltb, length, get_or, replicate, take, drop, Option, Some, None}
 use Rattle.image.specs.Pick.{pick}
 use Rattle.image.specs.Node.{full_word}
 use Rattle.image.specs.Admit.{refusal}
@@ -97,6 +97,11 @@ list_difference asked f part n s =
 unfoldable pub short_difference : ℕ → List ℕ → ℕ
 short_difference k s = pick (eqb k 0) 0 (difference (head_of 9 0) (list_numbers asked.Whole s (record_words * k - 1)))
 
+abbrev pub parts_differences : Parts → List ℕ → ℕ → List ℕ → ℕ
+parts_differences parts f n s =
+    list_difference asked.Resolve f parts.resolve n s + list_difference asked.Access f parts.access n s
+    + list_difference asked.Linear f parts.linear n s
+
 abbrev pub lists_by : Parts → List ℕ → Part → ℕ → List ℕ → ℕ
 lists_by parts f whole n s =
     list_difference asked.Whole f whole n s + short_difference whole.count s
@@ -107,31 +112,45 @@ unfoldable pub lists_differences : List ℕ → ℕ → ℕ → ℕ → List ℕ
 lists_differences f at k n s = lists_by (parts_of f at k) f (part_of at k) n s
 
 -- Where the reading goes on, and how many differences there were; or the answers end too early
-abbrev pub step_to : ℕ → ℕ → Step
-step_to a d = record { at = a; differ = d; whole = true }
+abbrev pub step_to : ℕ → ℕ → Option Step
+step_to a d = Some (record { at = a; differ = d })
 
-abbrev pub ends_early : Step
-ends_early = record { at = 0; differ = 0; whole = false }
+abbrev pub ends_early : Option Step
+ends_early = None
+
+-- whether the answers are whole; where they are not, the place and the number of differences are 0
+abbrev pub whole : Option Step → Bool
+whole None = false
+whole (Some r) = true
+
+abbrev pub place_of : Option Step → ℕ
+place_of None = 0
+place_of (Some r) = r.at
+
+abbrev pub differ_of : Option Step → ℕ
+differ_of None = 0
+differ_of (Some r) = r.differ
 
 -- a step, and d differences before it
-abbrev pub after : ℕ → Step → Step
-after d r = record { at = r.at; differ = d + r.differ; whole = r.whole }
+abbrev pub after : ℕ → Option Step → Option Step
+after d None = None
+after d (Some r) = step_to r.at (d + r.differ)
 
 -- k steps from `at` on, each from where the last one stopped, with d differences before them
-unfoldable pub steps : (ℕ → Step) → ℕ → ℕ → ℕ → Step
+unfoldable pub steps : (ℕ → Option Step) → ℕ → ℕ → ℕ → Option Step
 steps one zero at d = step_to at d
-steps one (suc k) at d = pick (one at).whole (steps one k (one at).at (d + (one at).differ)) ends_early
+steps one (suc k) at d = pick (whole (one at)) (steps one k (place_of (one at)) (d + differ_of (one at))) ends_early
 
 -- One name that is asked about: its length, its bytes, three answers; k of them
-abbrev pub name_by : List ℕ → ℕ → ℕ → ℕ → List ℕ → Step
+abbrev pub name_by : List ℕ → ℕ → ℕ → ℕ → List ℕ → Option Step
 name_by f from size n s =
     pick (ltb (length f - from) (size + 3)) ends_early
     (step_to (from + size + 3) (question_differences f (from + size) n s (take (from + size - from) (drop from f))))
 
-unfoldable pub name_step : List ℕ → ℕ → List ℕ → ℕ → Step
+unfoldable pub name_step : List ℕ → ℕ → List ℕ → ℕ → Option Step
 name_step f n s at = pick (ltb (length f - at) 1) ends_early (name_by f (at + 1) (get_or f at 0) n s)
 
-abbrev pub names_step : List ℕ → ℕ → List ℕ → ℕ → ℕ → Step
+abbrev pub names_step : List ℕ → ℕ → List ℕ → ℕ → ℕ → Option Step
 names_step f n s k at = steps (name_step f n s) k at 0
 
 -- The answers on one image, from its refusal on, where its list has k records
@@ -140,33 +159,33 @@ answer_differences f at k n s =
     pass_differences f (at + 1) n s + verdict_differences f (at + 1) n s + lists_differences f (at + 41) k n s
     + pass_difference linear f (at + 1 + 24) n s
 
-abbrev pub answers_by : List ℕ → ℕ → ℕ → ℕ → List ℕ → Step
+abbrev pub answers_by : List ℕ → ℕ → ℕ → ℕ → List ℕ → Option Step
 answers_by f at k n s =
     pick (ltb (length f - (at + 41)) (record_bytes * k + 1)) ends_early
     (after (answer_differences f at k n s) (names_step f n s (get_or f (at + 41 + record_bytes * k) 0) (at + 41 + record_bytes * k + 1)))
 
-unfoldable pub answers_step : List ℕ → ℕ → List ℕ → Step
+unfoldable pub answers_step : List ℕ → ℕ → List ℕ → Option Step
 answers_step f at s = answers_by f at (full_word f (at + 37)) (get_or f at 0) s
 
 -- One image, of `size` bytes, and the answers on it; k of them
-abbrev pub image_by : List ℕ → ℕ → ℕ → Step
+abbrev pub image_by : List ℕ → ℕ → ℕ → Option Step
 image_by f from size =
     pick (ltb (length f - from) (size + 41)) ends_early (answers_step f (from + size) (take (from + size - from) (drop from f)))
 
-unfoldable pub image_step : List ℕ → ℕ → Step
+unfoldable pub image_step : List ℕ → ℕ → Option Step
 image_step f at = pick (ltb (length f - at) 4) ends_early (image_by f (at + 4) (full_word f at))
 
-abbrev pub images_step : List ℕ → ℕ → Step
+abbrev pub images_step : List ℕ → ℕ → Option Step
 images_step f k = steps (image_step f) k 4 0
 
 -- How many differences k steps tell from `at` on, where `tells` says it of each: what was told stays told where the answers end too early
-unfoldable pub told : (ℕ → ℕ) → (ℕ → Step) → ℕ → ℕ → ℕ
+unfoldable pub told : (ℕ → ℕ) → (ℕ → Option Step) → ℕ → ℕ → ℕ
 told tells one zero at = 0
-told tells one (suc k) at = tells at + pick (one at).whole (told tells one k (one at).at) 0
+told tells one (suc k) at = tells at + pick (whole (one at)) (told tells one k (place_of (one at))) 0
 
 -- .. of a name, and of k names
 abbrev pub name_told : List ℕ → ℕ → List ℕ → ℕ → ℕ
-name_told f n s at = (name_step f n s at).differ
+name_told f n s at = differ_of (name_step f n s at)
 
 abbrev pub names_told : List ℕ → ℕ → List ℕ → ℕ → ℕ → ℕ
 names_told f n s k at = told (name_told f n s) (name_step f n s) k at

@@ -1,11 +1,11 @@
 // The recorded list of an image against the face's: whole, in a buffer that is one word short, and each pass's part.
 ghost use Rattle.std.specs.Prelude.{◌≡◌, ◌+◌, ◌*◌, ◌<◌, ◌≤◌, length, IfOk, OnErr};
 ghost use Rattle.recording.specs.Told.{record_words, record_bytes, Within, list_differences};
-ghost use Rattle.replay.specs.Differences.{list_numbers, words_in, zeros, list_difference, short_difference, lists_differences};
+ghost use Rattle.replay.specs.Differences.{list_numbers, words_in, zeros, list_difference, short_difference, parts_differences, lists_differences};
 
 use crate::ask;
 use crate::ask::Asked;
-use recording::{Case, Numbers, Part, RECORD_WORDS};
+use recording::{Case, Numbers, Part, Parts, RECORD_WORDS};
 use std::io;
 
 // Words for as many records as a file of main's ROOM bytes can hold.
@@ -31,7 +31,7 @@ fn answer_in(asked: Asked, image: &[u8], words: &mut [u16], size: usize) -> Numb
 fn list_in(
     rt: &impl Print,
     case: Case,
-    name: &[u8],
+    name: &str,
     asked: Asked,
     file: &[u8],
     part: Part,
@@ -50,7 +50,7 @@ fn list_in(
 fn list_differs(
     rt: &impl Print,
     case: Case,
-    name: &[u8],
+    name: &str,
     asked: Asked,
     file: &[u8],
     part: Part,
@@ -76,7 +76,38 @@ fn short_differs(rt: &impl Print, case: Case, count: usize, image: &[u8]) -> io:
     let mut words = blank();
     let answer = answer_in(Asked::Whole, image, &mut words, RECORD_WORDS * count - 1);
     let recorded = Numbers(9, 0, 0, 0, 0, 0);
-    recording::differs(rt, case, b"list, one word short", recorded, answer)
+    recording::differs(rt, case, "list, one word short", recorded, answer)
+}
+
+// Each pass's list against its part of the recorded one.
+fn parts_differ(
+    rt: &impl Print,
+    case: Case,
+    file: &[u8],
+    parts: Parts,
+    image: &[u8],
+) -> io::Result<usize>
+    requires { Within file.now parts.resolve × Within file.now parts.access × Within file.now parts.linear × (length file.now ≤ 450000) }
+    ensures ok { IfOk result (λ n. (n ≡ parts_differences parts file.now case.refusal image.now) × (n ≤ 168753)) }
+    ensures err { OnErr result (0 < parts_differences parts file.now case.refusal image.now) }
+{
+    let Parts {
+        resolve,
+        access,
+        linear,
+    } = parts;
+    let a = list_differs(
+        rt,
+        case,
+        "resolve_list",
+        Asked::Resolve,
+        file,
+        resolve,
+        image,
+    )?;
+    let b = list_differs(rt, case, "access_list", Asked::Access, file, access, image)?;
+    let c = list_differs(rt, case, "linear_list", Asked::Linear, file, linear, image)?;
+    Ok(a + b + c)
 }
 
 // How many of the lists differ from the recorded one.
@@ -94,34 +125,8 @@ pub fn differ(
 {
     let whole = recording::part_of(at, count);
     let parts = recording::parts_of(file, at, count);
-    let a = list_differs(rt, case, b"list", Asked::Whole, file, whole, image)?;
+    let a = list_differs(rt, case, "list", Asked::Whole, file, whole, image)?;
     let b = short_differs(rt, case, count, image)?;
-    let c = list_differs(
-        rt,
-        case,
-        b"resolve_list",
-        Asked::Resolve,
-        file,
-        parts.resolve,
-        image,
-    )?;
-    let d = list_differs(
-        rt,
-        case,
-        b"access_list",
-        Asked::Access,
-        file,
-        parts.access,
-        image,
-    )?;
-    let e = list_differs(
-        rt,
-        case,
-        b"linear_list",
-        Asked::Linear,
-        file,
-        parts.linear,
-        image,
-    )?;
-    Ok(a + b + c + d + e)
+    let c = parts_differ(rt, case, file, parts, image)?;
+    Ok(a + b + c)
 }

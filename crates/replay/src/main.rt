@@ -5,18 +5,15 @@
 mod ask;
 mod lists;
 
-ghost use Rattle.std.specs.Prelude.{◌≡◌, ◌+◌, ◌<◌, ◌≤◌, length, take, IfOk, OnErr};
-ghost use Rattle.std.specs.Io.{ReadsAtMost};
-ghost use Rattle.std.specs.Io.KnownBytes.{Consumes, IsAtEnd};
+ghost use Rattle.std.specs.Prelude.{◌≡◌, ◌+◌, ◌<◌, ◌≤◌, length, IfOk, OnErr};
 ghost use Rattle.rules.specs.Linear.{linear};
 ghost use Rattle.recording.specs.Told.{difference, verdict_at, reply_at};
 ghost use Rattle.replay.specs.Differences.{of_verdict, of_reply, pass_difference, pass_differences, verdict_differences, question_differences};
-ghost use Rattle.replay.specs.Differences.{step_to, ends_early, name_step, names_step, answers_step, image_step, images_step};
+ghost use Rattle.replay.specs.Differences.{place_of, differ_of, name_step, names_step, answers_step, image_step, images_step};
 ghost use Rattle.replay.specs.Differences.{name_told, names_told, answers_told, image_told, images_told};
 
 use recording::{Case, Numbers, RECORD_BYTES};
 use std::io;
-use std::io::Read;
 use std::process::ExitCode;
 use typeck::{Reply, Verdict};
 
@@ -30,39 +27,18 @@ fn room_for_all() -> [u8; ROOM]
     [0; ROOM]
 }
 
-// Where the reading goes on and how many differences were told; or, not whole, the answers end too early.
+// Where the reading goes on and how many differences were told. Where the answers end too early there is none.
 #[derive(Clone, Copy)]
 struct Step {
     at: usize,
     differ: usize,
-    whole: bool,
-}
-
-fn early() -> Step
-    ensures { (result ≡ ends_early) × (result.at ≡ 0) × (result.differ ≡ 0) }
-{
-    Step {
-        at: 0,
-        differ: 0,
-        whole: false,
-    }
-}
-
-fn step_to(at: usize, differ: usize) -> Step
-    ensures { (result ≡ step_to at differ) × (result.at ≡ at) × (result.differ ≡ differ) }
-{
-    Step {
-        at,
-        differ,
-        whole: true,
-    }
 }
 
 // A verdict of the face against the recorded one.
 fn pass_differs(
     rt: &impl Print,
     case: Case,
-    asked: &[u8],
+    asked: &str,
     file: &[u8],
     at: usize,
     verdict: Verdict,
@@ -88,10 +64,10 @@ fn passes_differ(
 {
     let recorded = Numbers(case.refusal, 0, 0, 0, 0, 0);
     let refused = Numbers(typeck::refused(image), 0, 0, 0, 0, 0);
-    let a = recording::differs(rt, case, b"refused", recorded, refused)?;
-    let b = pass_differs(rt, case, b"resolve", file, at, typeck::resolve(image))?;
-    let c = pass_differs(rt, case, b"access", file, at + 12, typeck::access(image))?;
-    let d = pass_differs(rt, case, b"linear", file, at + 24, typeck::linear(image))?;
+    let a = recording::differs(rt, case, "refused", recorded, refused)?;
+    let b = pass_differs(rt, case, "resolve", file, at, typeck::resolve(image))?;
+    let c = pass_differs(rt, case, "access", file, at + 12, typeck::access(image))?;
+    let d = pass_differs(rt, case, "linear", file, at + 24, typeck::linear(image))?;
     Ok(a + b + c + d)
 }
 
@@ -111,9 +87,9 @@ fn verdicts_differ(
     let resolve = answers.resolve;
     let access = answers.access;
     let linear = answers.linear;
-    let a = pass_differs(rt, case, b"verdicts, resolve", file, at, resolve)?;
-    let b = pass_differs(rt, case, b"verdicts, access", file, at + 12, access)?;
-    let c = pass_differs(rt, case, b"verdicts, linear", file, at + 24, linear)?;
+    let a = pass_differs(rt, case, "verdicts, resolve", file, at, resolve)?;
+    let b = pass_differs(rt, case, "verdicts, access", file, at + 12, access)?;
+    let c = pass_differs(rt, case, "verdicts, linear", file, at + 24, linear)?;
     Ok(a + b + c)
 }
 
@@ -130,14 +106,14 @@ fn lent_differs(
     ensures err { OnErr result (0 < pass_difference linear file.now (at + 24) case.refusal image.now) }
 {
     let verdict = linear_lent::linear_here(image);
-    pass_differs(rt, case, b"linear, rows lent", file, at + 24, verdict)
+    pass_differs(rt, case, "linear, rows lent", file, at + 24, verdict)
 }
 
 // An answer of the face about a name against the recorded one.
 fn reply_differs(
     rt: &impl Print,
     case: Case,
-    asked: &[u8],
+    asked: &str,
     file: &[u8],
     at: usize,
     reply: Reply,
@@ -165,31 +141,37 @@ fn questions_differ(
     let state = typeck::is_state(image, name);
     let declared = typeck::is_declared_asset(image, name);
     let known = typeck::is_known_asset(image, name);
-    let a = reply_differs(rt, case, b"is_state", file, at, state)?;
-    let b = reply_differs(rt, case, b"is_declared_asset", file, at + 1, declared)?;
-    let c = reply_differs(rt, case, b"is_known_asset", file, at + 2, known)?;
+    let a = reply_differs(rt, case, "is_state", file, at, state)?;
+    let b = reply_differs(rt, case, "is_declared_asset", file, at + 1, declared)?;
+    let c = reply_differs(rt, case, "is_known_asset", file, at + 2, known)?;
     Ok(a + b + c)
 }
 
 // One name that is asked about.
-fn name_step(rt: &impl Print, case: Case, file: &[u8], at: usize, image: &[u8]) -> io::Result<Step>
+fn name_step(
+    rt: &impl Print,
+    case: Case,
+    file: &[u8],
+    at: usize,
+    image: &[u8],
+) -> io::Result<Option<Step>>
     requires { at ≤ length file.now }
     ensures value { IfOk result (λ step. step ≡ name_step file.now case.refusal image.now at) }
-    ensures at_in_bounds { IfOk result (λ step. (step.at ≤ length file.now) × (step.differ ≤ 3)) }
+    ensures at_in_bounds { IfOk result (λ step. (place_of step ≤ length file.now) × (differ_of step ≤ 3)) }
     ensures err { OnErr result (0 < name_told file.now case.refusal image.now at) }
 {
     let n = file.len();
     if n - at < 1 {
-        return Ok(early());
+        return Ok(None);
     }
     let size = recording::u8_at(file, at);
     let from = at + 1;
     if n - from < size + 3 {
-        return Ok(early());
+        return Ok(None);
     }
     let to = from + size;
     let differ = questions_differ(rt, case, file, to, image, &file[from..to])?;
-    Ok(step_to(to + 3, differ))
+    Ok(Some(Step { at: to + 3, differ }))
 }
 
 // The names that are asked about.
@@ -200,25 +182,23 @@ fn names_step(
     at: usize,
     count: usize,
     image: &[u8],
-) -> io::Result<Step>
+) -> io::Result<Option<Step>>
     requires { (at ≤ length file.now) × (count < 256) }
     ensures value { IfOk result (λ step. step ≡ names_step file.now case.refusal image.now count at) }
-    ensures at_in_bounds { IfOk result (λ step. (step.at ≤ length file.now) × (step.differ ≤ 768)) }
+    ensures at_in_bounds { IfOk result (λ step. (place_of step ≤ length file.now) × (differ_of step ≤ 768)) }
     ensures err { OnErr result (0 < names_told file.now case.refusal image.now count at) }
 {
     let mut next = at;
     let mut differ = 0;
-    let mut i = 0;
-    while i < count {
-        let step = name_step(rt, case, file, next, image)?;
+    for _name in 0..count {
+        let found = name_step(rt, case, file, next, image)?;
+        let Some(step) = found else {
+            return Ok(None);
+        };
         next = step.at;
         differ += step.differ;
-        i += 1;
-        if !step.whole {
-            return Ok(early());
-        }
     }
-    Ok(step_to(next, differ))
+    Ok(Some(Step { at: next, differ }))
 }
 
 // The answers on one image, from its refusal on.
@@ -228,10 +208,10 @@ fn answers_step(
     at: usize,
     number: usize,
     image: &[u8],
-) -> io::Result<Step>
+) -> io::Result<Option<Step>>
     requires { (at + 41 ≤ length file.now) × (length file.now ≤ 450000) }
     ensures value { IfOk result (λ step. step ≡ answers_step file.now at image.now) }
-    ensures at_in_bounds { IfOk result (λ step. (step.at ≤ length file.now) × (step.differ ≤ 500000)) }
+    ensures at_in_bounds { IfOk result (λ step. (place_of step ≤ length file.now) × (differ_of step ≤ 500000)) }
     ensures err { OnErr result (0 < answers_told file.now at image.now) }
 {
     let refusal = recording::u8_at(file, at);
@@ -239,105 +219,80 @@ fn answers_step(
     let count = recording::u32_at(file, at + 37);
     let list = at + 41;
     if file.len() - list < RECORD_BYTES * count + 1 {
-        return Ok(early());
+        return Ok(None);
     }
     let names = list + RECORD_BYTES * count;
     let a = passes_differ(rt, case, file, at + 1, image)?;
     let b = verdicts_differ(rt, case, file, at + 1, image)?;
     let c = lists::differ(rt, case, file, list, count, image)?;
     let d = lent_differs(rt, case, file, at + 1, image)?;
-    let step = names_step(
-        rt,
-        case,
-        file,
-        names + 1,
-        recording::u8_at(file, names),
-        image,
-    )?;
-    let differ = a + b + c + d;
-    Ok(Step {
+    let asked = recording::u8_at(file, names);
+    let found = names_step(rt, case, file, names + 1, asked, image)?;
+    let Some(step) = found else {
+        return Ok(None);
+    };
+    Ok(Some(Step {
         at: step.at,
-        differ: differ + step.differ,
-        whole: step.whole,
-    })
+        differ: a + b + c + d + step.differ,
+    }))
 }
 
 // One image and the answers on it.
-fn image_step(rt: &impl Print, file: &[u8], at: usize, number: usize) -> io::Result<Step>
+fn image_step(rt: &impl Print, file: &[u8], at: usize, number: usize) -> io::Result<Option<Step>>
     requires { (at ≤ length file.now) × (length file.now ≤ 450000) }
     ensures value { IfOk result (λ step. step ≡ image_step file.now at) }
-    ensures at_in_bounds { IfOk result (λ step. (step.at ≤ length file.now) × (step.differ ≤ 500000)) }
+    ensures at_in_bounds { IfOk result (λ step. (place_of step ≤ length file.now) × (differ_of step ≤ 500000)) }
     ensures err { OnErr result (0 < image_told file.now at) }
 {
     let n = file.len();
     if n - at < 4 {
-        return Ok(early());
+        return Ok(None);
     }
     let size = recording::u32_at(file, at);
     let from = at + 4;
     if n - from < size + 41 {
-        return Ok(early());
+        return Ok(None);
     }
     let to = from + size;
     answers_step(rt, file, to, number, &file[from..to])
 }
 
 // All images, from the first on.
-fn images_step(rt: &impl Print, file: &[u8], count: usize) -> io::Result<Step>
+fn images_step(rt: &impl Print, file: &[u8], count: usize) -> io::Result<Option<Step>>
     requires { (4 ≤ length file.now) × (length file.now ≤ 450000) × (count ≤ 4294967296) }
     ensures value { IfOk result (λ step. step ≡ images_step file.now count) }
-    ensures at_in_bounds { IfOk result (λ step. step.at ≤ length file.now) }
+    ensures at_in_bounds { IfOk result (λ step. place_of step ≤ length file.now) }
     ensures err { OnErr result (0 < images_told file.now count) }
 {
     let mut next = 4;
     let mut differ = 0;
-    let mut i = 0;
-    while i < count {
-        let step = image_step(rt, file, next, i)?;
+    for number in 0..count {
+        let found = image_step(rt, file, next, number)?;
+        let Some(step) = found else {
+            return Ok(None);
+        };
         next = step.at;
         differ += step.differ;
-        i += 1;
-        if !step.whole {
-            return Ok(early());
-        }
     }
-    Ok(step_to(next, differ))
+    Ok(Some(Step { at: next, differ }))
 }
 
 fn replay(rt: &impl Print, file: &[u8]) -> io::Result<()> {
     let n = file.len();
     if ROOM <= n {
-        return recording::text(rt, b"recorded answers are too long\n");
+        return println!(rt; "recorded answers are too long");
     }
     if n < 4 {
-        return recording::text(rt, b"recorded answers end early\n");
+        return println!(rt; "recorded answers end early");
     }
     let count = recording::u32_at(file, 0);
-    let step = images_step(rt, file, count)?;
-    if !step.whole {
-        return recording::text(rt, b"recorded answers end early\n");
-    }
+    let Some(step) = images_step(rt, file, count)? else {
+        return println!(rt; "recorded answers end early");
+    };
     if step.at < n {
-        recording::text(rt, b"recorded answers go on after the last image\n")?;
+        println!(rt; "recorded answers go on after the last image")?;
     }
     recording::summary(rt, count, step.differ)
-}
-
-// Reads until the room is full or the input ends, and says how many bytes that gave.
-fn read_full<R: Read>(input: &mut R, room: &mut [u8]) -> io::Result<usize>
-    ensures bound { ReadsAtMost result room.new }
-    ensures bytes { IfOk result (λ n. Consumes (R.remaining input.old) (R.remaining input.new) (take n room.new)) }
-    ensures end { IfOk result (λ n. n < length room.new → IsAtEnd (R.remaining input.new)) }
-{
-    let mut n = 0;
-    while n < room.len() {
-        let more = input.read(&mut room[n..])?;
-        if more == 0 {
-            break;
-        }
-        n += more;
-    }
-    Ok(n)
 }
 
 // Why the answers were not compared, or not all that differs was told.
@@ -349,7 +304,7 @@ fn failed(rt: &impl Eprint, stream: &str, error: io::Error) -> ExitCode {
 
 fn main(rt: HostRuntime) -> ExitCode {
     let mut room = room_for_all();
-    match read_full(&mut rt.stdin(), &mut room) {
+    match input::read_full(&mut rt.stdin(), &mut room) {
         Err(error) => failed(&rt, "standard input", error),
         Ok(n) => match replay(&rt, &room[..n]) {
             Err(error) => failed(&rt, "standard output", error),

@@ -2,13 +2,10 @@
 // A read or a write that fails ends it: that is told on standard error, and the exit status is 1.
 #![tactic(auto)]
 
-ghost use Rattle.std.specs.Prelude.{◌≡◌, ◌<◌, length, take, IfOk};
-ghost use Rattle.std.specs.Io.{ReadsAtMost};
-ghost use Rattle.std.specs.Io.KnownBytes.{Consumes, IsAtEnd};
+ghost use Rattle.std.specs.Prelude.{◌≡◌, length};
 
 use image::Image;
 use std::io;
-use std::io::Read;
 use std::process::ExitCode;
 
 // No report is longer.
@@ -31,23 +28,6 @@ fn blank_room() -> [u8; ROOM]
     [0; ROOM]
 }
 
-// Reads until the room is full or the input ends, and says how many bytes that gave.
-fn read_full<R: Read>(input: &mut R, room: &mut [u8]) -> io::Result<usize>
-    ensures bound { ReadsAtMost result room.new }
-    ensures bytes { IfOk result (λ n. Consumes (R.remaining input.old) (R.remaining input.new) (take n room.new)) }
-    ensures end { IfOk result (λ n. n < length room.new → IsAtEnd (R.remaining input.new)) }
-{
-    let mut n = 0;
-    while n < room.len() {
-        let more = input.read(&mut room[n..])?;
-        if more == 0 {
-            break;
-        }
-        n += more;
-    }
-    Ok(n)
-}
-
 // Prints the report of an image: all of it, or the answer is why not.
 fn report(rt: &impl Print, image: &[u8]) -> io::Result<()> {
     let mut text = blank_text();
@@ -64,7 +44,7 @@ fn failed(rt: &impl Eprint, stream: &str, error: io::Error) -> ExitCode {
 
 fn main(rt: HostRuntime) -> ExitCode {
     let mut room = blank_room();
-    match read_full(&mut rt.stdin(), &mut room) {
+    match input::read_full(&mut rt.stdin(), &mut room) {
         Err(error) => failed(&rt, "standard input", error),
         Ok(n) => match report(&rt, &room[..n]) {
             Err(error) => failed(&rt, "standard output", error),

@@ -13,11 +13,21 @@ ghost use Rattle.image.specs.Tree.{carries, name_fits};
 use children::{Kinds, MAY_END, START, TEXT};
 use image::Image;
 
+// The three parts of an image, lent, and how many nodes and names they have by its header.
+#[derive(Clone, Copy)]
+pub struct Parts<'a> {
+    pub nodes: &'a [u8],
+    pub names: &'a [u8],
+    pub text: &'a [u8],
+    pub n: usize,
+    pub m: usize,
+}
+
 // Whether name number n fits a node of a kind that carries a text of form f. The names were judged before,
 // so the first byte of one tells its form: a number text starts with a digit, and a letter or `_` is above every digit.
-fn name_fits(names: &[u8], text: &[u8], m: usize, f: usize, n: usize) -> bool
-    requires { (2 * m + 2 ≤ length names.now) × (names_ok names.now text.now m ≡ true) × (f < 3) }
-    ensures { (k : ℕ) → f ≡ carries k → result ≡ name_fits names.now text.now m k n }
+fn name_fits(parts: &Parts, f: usize, n: usize) -> bool
+    requires { (2 * parts.now.m + 2 ≤ length parts.now.names.now) × (names_ok parts.now.names.now parts.now.text.now parts.now.m ≡ true) × (f < 3) }
+    ensures { (k : ℕ) → f ≡ carries k → result ≡ name_fits parts.now.names.now parts.now.text.now parts.now.m k n }
 {
     if f == 0 {
         return n == 0;
@@ -25,14 +35,14 @@ fn name_fits(names: &[u8], text: &[u8], m: usize, f: usize, n: usize) -> bool
     if n < 1 {
         return false;
     }
-    if m < n {
+    if parts.m < n {
         return false;
     }
-    let a = image::offset(names, n - 1);
+    let a = image::offset(parts.names, n - 1);
     if f == 2 {
-        return text[a] <= b'9';
+        return parts.text[a] <= b'9';
     }
-    b'9' < text[a]
+    b'9' < parts.text[a]
 }
 
 // Whether the byte and the u16 of node i that are to be 0 are.
@@ -44,39 +54,39 @@ fn zeros_ok(nodes: &[u8], i: usize) -> bool
 }
 
 // Whether the fields of node i, but for its end, are as the tree wants them; `of` are the facts of its kind.
-fn fields_ok(nodes: &[u8], names: &[u8], text: &[u8], m: usize, of: usize, i: usize) -> bool
-    requires { (16 * i + 16 ≤ length nodes.now) × (2 * m + 2 ≤ length names.now) × (names_ok names.now text.now m ≡ true) × (of ≡ kind_facts (kind_of nodes.now i)) }
-    ensures { result ≡ fields_ok nodes.now names.now text.now m i }
+fn fields_ok(parts: &Parts, of: usize, i: usize) -> bool
+    requires { (16 * i + 16 ≤ length parts.now.nodes.now) × (2 * parts.now.m + 2 ≤ length parts.now.names.now) × (names_ok parts.now.names.now parts.now.text.now parts.now.m ≡ true) × (of ≡ kind_facts (kind_of parts.now.nodes.now i)) }
+    ensures { result ≡ fields_ok parts.now.nodes.now parts.now.names.now parts.now.text.now parts.now.m i }
 {
-    if !zeros_ok(nodes, i) {
+    if !zeros_ok(parts.nodes, i) {
         return false;
     }
-    name_fits(names, text, m, of / TEXT % 4, image::name(nodes, i))
+    name_fits(parts, of / TEXT % 4, image::name(parts.nodes, i))
 }
 
 // Whether node 0 is the contract, ends at n, and has its fields in order.
-pub fn root_ok(kinds: &Kinds, nodes: &[u8], names: &[u8], text: &[u8], n: usize, m: usize) -> bool
-    requires { (16 ≤ length nodes.now) × (2 * m + 2 ≤ length names.now) × (names_ok names.now text.now m ≡ true) × (kinds.now ≡ kind_table) }
-    ensures { result ≡ root_ok nodes.now names.now text.now n m }
+pub fn root_ok(kinds: &Kinds, parts: &Parts) -> bool
+    requires { (16 ≤ length parts.now.nodes.now) × (2 * parts.now.m + 2 ≤ length parts.now.names.now) × (names_ok parts.now.names.now parts.now.text.now parts.now.m ≡ true) × (kinds.now ≡ kind_table) }
+    ensures { result ≡ root_ok parts.now.nodes.now parts.now.names.now parts.now.text.now parts.now.n parts.now.m }
 {
-    if image::kind(nodes, 0) != 1 {
+    if image::kind(parts.nodes, 0) != 1 {
         return false;
     }
-    if image::end(nodes, 0) != n {
+    if image::end(parts.nodes, 0) != parts.n {
         return false;
     }
-    fields_ok(nodes, names, text, m, children::facts(kinds, 1), 0)
+    fields_ok(parts, children::facts(kinds, 1), 0)
 }
 
 // Whether the next node is in order as a child of the open one, whatever its own children are; `of` are the facts of its kind.
-pub fn child_ok(nodes: &[u8], names: &[u8], text: &[u8], m: usize, of: usize, p: Position) -> bool
-    requires { (16 * p.at + 16 ≤ length nodes.now) × (2 * m + 2 ≤ length names.now) × (names_ok names.now text.now m ≡ true) × (of ≡ kind_facts (kind_of nodes.now p.at)) }
-    ensures { result ≡ child_ok nodes.now names.now text.now m p.end p.at }
+pub fn child_ok(parts: &Parts, of: usize, p: Position) -> bool
+    requires { (16 * p.at + 16 ≤ length parts.now.nodes.now) × (2 * parts.now.m + 2 ≤ length parts.now.names.now) × (names_ok parts.now.names.now parts.now.text.now parts.now.m ≡ true) × (of ≡ kind_facts (kind_of parts.now.nodes.now p.at)) }
+    ensures { result ≡ child_ok parts.now.nodes.now parts.now.names.now parts.now.text.now parts.now.m p.end p.at }
 {
-    if !fields_ok(nodes, names, text, m, of, p.at) {
+    if !fields_ok(parts, of, p.at) {
         return false;
     }
-    let to = image::end(nodes, p.at);
+    let to = image::end(parts.nodes, p.at);
     p.at < to && to <= p.end
 }
 
@@ -104,6 +114,13 @@ pub struct Position {
     pub deepest: usize,
 }
 
+// What is to be known of the ancestors of the open node, the contract first: the state of its row, and where it ends.
+#[derive(Drop)]
+pub struct Stack {
+    pub states: [u8; Image::NODES],
+    pub ends: [u16; Image::NODES],
+}
+
 // Before node 1: the contract, which ends at n, is open.
 pub fn start(n: usize) -> Position
     ensures { result ≡ begun n }
@@ -118,15 +135,15 @@ pub fn start(n: usize) -> Position
 }
 
 // The open node ends here: its parent is open again, with the state and the end that the stack has of it.
-pub fn up(p: Position, states: &[u8; Image::NODES], ends: &[u16; Image::NODES]) -> Position
+pub fn up(p: Position, stack: &Stack) -> Position
     requires { (1 ≤ p.depth) × (p.depth ≤ max_nodes) }
-    ensures { result ≡ ascended states.now ends.now p }
+    ensures { result ≡ ascended stack.now.states stack.now.ends p }
 {
     let d = p.depth - 1;
     Position {
         at: p.at,
-        state: usize::from(states[d]),
-        end: usize::from(ends[d]),
+        state: usize::from(stack.states[d]),
+        end: usize::from(stack.ends[d]),
         depth: d,
         deepest: p.deepest,
     }
@@ -147,20 +164,13 @@ fn past(p: Position, after: usize) -> Position
 }
 
 // Down into a node that ends at `to` and whose row starts in state `row`: what is to be known of its parent goes onto the stack.
-fn down(
-    p: Position,
-    after: usize,
-    row: usize,
-    to: usize,
-    states: &mut [u8; Image::NODES],
-    ends: &mut [u16; Image::NODES],
-) -> Position
+fn down(p: Position, after: usize, row: usize, to: usize, stack: &mut Stack) -> Position
     requires { Roomy p after }
-    ensures { Opened after row to states.old ends.old states.new ends.new p result }
+    ensures { Opened after row to stack.old.states stack.old.ends stack.new.states stack.new.ends p result }
 {
     let d = p.depth;
-    states[d] = after as u8;
-    ends[d] = p.end as u16;
+    stack.states[d] = after as u8;
+    stack.ends[d] = p.end as u16;
     Position {
         at: p.at + 1,
         state: row,
@@ -171,19 +181,12 @@ fn down(
 }
 
 // On to the node after this one. A node without children is passed, unless its row asks for some: then it is opened, and found to end too early.
-pub fn on(
-    p: Position,
-    after: usize,
-    row: usize,
-    to: usize,
-    states: &mut [u8; Image::NODES],
-    ends: &mut [u16; Image::NODES],
-) -> Position
+pub fn on(p: Position, after: usize, row: usize, to: usize, stack: &mut Stack) -> Position
     requires { Roomy p after }
-    ensures { Further after row to states.old ends.old states.new ends.new p result }
+    ensures { Further after row to stack.old.states stack.old.ends stack.new.states stack.new.ends p result }
 {
     if p.at + 1 < to || row < MAY_END {
-        return down(p, after, row, to, states, ends);
+        return down(p, after, row, to, stack);
     }
     past(p, after)
 }

@@ -21,25 +21,25 @@ pub returns-then-not-root_ok : goal.returns-then-not-root_ok
 returns-then-not-root_ok c =
     let t = let a = c.args in
     let unlike = sym c.if-not-root_ok.true ∙ c.root_ok.ensures in
-    refused a.nodes.now a.names.now a.text.now a.n a.m _ (root-unfit a.nodes.now a.names.now a.text.now a.n a.m c.requires.0 unlike) in record { value = t.0; false_after = t.1 }
+    refused a.parts.now.nodes.now a.parts.now.names.now a.parts.now.text.now a.parts.now.n a.parts.now.m _ (root-unfit a.parts.now.nodes.now a.parts.now.names.now a.parts.now.text.now a.parts.now.n a.parts.now.m c.requires.0 unlike) in record { value = t.0; false_after = t.1 }
 
 pub mark-requires : goal.mark-requires
 mark-requires c =
-    let rooted : let a = c.args in Rooted a.nodes.now a.names.now a.text.now a.n a.m = root-fit _ _ _ _ _ c.requires.0 (sym c.if-not-root_ok.false ∙ c.root_ok.ensures) in
+    let rooted : let a = c.args in Rooted a.parts.now.nodes.now a.parts.now.names.now a.parts.now.text.now a.parts.now.n a.parts.now.m = root-fit _ _ _ _ _ c.requires.0 (sym c.if-not-root_ok.false ∙ c.root_ok.ensures) in
     (omega arith, fields-small _ _ _ _ _ c.requires.2 (sym (rooted).fields))
 
 pub walk-requires : goal.walk-requires
 unfolding kind_table kinds_from kind_facts part_at state_of states family_of carries
 walk-requires c =
-    let rooted : let a = c.args in Rooted a.nodes.now a.names.now a.text.now a.n a.m = root-fit _ _ _ _ _ c.requires.0 (sym c.if-not-root_ok.false ∙ c.root_ok.ensures) in
+    let rooted : let a = c.args in Rooted a.parts.now.nodes.now a.parts.now.names.now a.parts.now.text.now a.parts.now.n a.parts.now.m = root-fit _ _ _ _ _ c.requires.0 (sym c.if-not-root_ok.false ∙ c.root_ok.ensures) in
     let p = c.requires in
     let a = c.args in
-    let fresh = c.mark.ensures ∙ ap (λ (l : List Bool). set l (name_of a.nodes.now 0) true) p.6 in
+    let fresh = c.mark.ensures ∙ ap (λ (l : List Bool). set l (name_of a.parts.now.nodes.now 0) true) p.6 in
     let long = length-replicate {A = ℕ} 2048 0 in
     (p.1, p.2, p.3, p.4, p.5, refl, c.transitions-nexts.ensures, rooted, record { states_long = long; ends_long = long; fresh = fresh })
 
 pub returns : goal.returns
 returns c =
-    let rooted : let a = c.args in Rooted a.nodes.now a.names.now a.text.now a.n a.m = root-fit _ _ _ _ _ c.requires.0 (sym c.if-not-root_ok.false ∙ c.root_ok.ensures) in
-    let t = whole c.args.nodes.now c.args.names.now c.args.text.now c.args.n c.args.m rooted _ (c.walk.ensures.value, c.walk.ensures.false_after) in
+    let rooted : let a = c.args in Rooted a.parts.now.nodes.now a.parts.now.names.now a.parts.now.text.now a.parts.now.n a.parts.now.m = root-fit _ _ _ _ _ c.requires.0 (sym c.if-not-root_ok.false ∙ c.root_ok.ensures) in
+    let t = whole c.args.parts.now.nodes.now c.args.parts.now.names.now c.args.parts.now.text.now c.args.parts.now.n c.args.parts.now.m rooted _ (c.walk.ensures.value, c.walk.ensures.false_after) in
     record { value = t.0; false_after = t.1 }

@@ -35,8 +35,8 @@ loop-p-preserved-then-p c = rw c.up-p.ensures (ascends _ _ _ _ _ c.loop-p.invari
 
 pub child_ok-requires : goal.child_ok-requires
 child_ok-requires c =
-    let inside : c.loop-p.p.at < c.args.n = inner _ _ _ _ _ c.loop-p.invariant c.if-p.false in
-    let known : c.facts-of.result ≡ kind_facts (kind_of c.args.nodes.now c.loop-p.p.at) = c.facts-of.ensures ∙ ap kind_facts c.kind.ensures.0 in
+    let inside : c.loop-p.p.at < c.args.parts.now.n = inner _ _ _ _ _ c.loop-p.invariant c.if-p.false in
+    let known : c.facts-of.result ≡ kind_facts (kind_of c.args.parts.now.nodes.now c.loop-p.p.at) = c.facts-of.ensures ∙ ap kind_facts c.kind.ensures.0 in
     let p = c.requires in
     let h = inside in
     (omega arith, p.3, p.4, known)
@@ -46,8 +46,8 @@ returns-then-not-child_ok c = let t = unfit _ _ _ _ _ c.loop-p.invariant c.if-p.
 
 pub mark-requires : goal.mark-requires
 mark-requires c =
-    let inside : c.loop-p.p.at < c.args.n = inner _ _ _ _ _ c.loop-p.invariant c.if-p.false in
-    let fit : let a = c.args in let p = c.loop-p.p in true ≡ child_ok a.nodes.now a.names.now a.text.now a.m p.end p.at = sym c.if-not-child_ok.false ∙ c.child_ok.ensures in
+    let inside : c.loop-p.p.at < c.args.parts.now.n = inner _ _ _ _ _ c.loop-p.invariant c.if-p.false in
+    let fit : let a = c.args in let p = c.loop-p.p in true ≡ child_ok a.parts.now.nodes.now a.parts.now.names.now a.parts.now.text.now a.parts.now.m p.end p.at = sym c.if-not-child_ok.false ∙ c.child_ok.ensures in
     let h = inside in
     (omega arith, own-small _ _ _ _ _ c.loop-p.invariant c.if-p.false c.requires.0 c.requires.1 (fit))
 
@@ -62,14 +62,14 @@ loop-p-smaller c = nearer _ _ _ _ _ c.loop-p.invariant c.if-p.false c.on-p.ensur
 
 pub loop-p-preserved : goal.loop-p-preserved
 loop-p-preserved c =
-    let known : c.facts-of.result ≡ kind_facts (kind_of c.args.nodes.now c.loop-p.p.at) = c.facts-of.ensures ∙ ap kind_facts c.kind.ensures.0 in
-    let fit : let a = c.args in let p = c.loop-p.p in true ≡ child_ok a.nodes.now a.names.now a.text.now a.m p.end p.at = sym c.if-not-child_ok.false ∙ c.child_ok.ensures in
+    let known : c.facts-of.result ≡ kind_facts (kind_of c.args.parts.now.nodes.now c.loop-p.p.at) = c.facts-of.ensures ∙ ap kind_facts c.kind.ensures.0 in
+    let fit : let a = c.args in let p = c.loop-p.p in true ≡ child_ok a.parts.now.nodes.now a.parts.now.names.now a.parts.now.text.now a.parts.now.m p.end p.at = sym c.if-not-child_ok.false ∙ c.child_ok.ensures in
     let n = c.next-after.ensures in
     steps _ _ _ _ _ c.loop-p.invariant c.if-p.false c.requires.0 c.requires.1 (fit) _ (known) _ n.0 n.1 _ c.end.ensures.0 c.mark.ensures c.on-p.ensures
 
 pub kind-requires : goal.kind-requires
 kind-requires c =
-    let inside : c.loop-p.p.at < c.args.n = inner _ _ _ _ _ c.loop-p.invariant c.if-p.false in
+    let inside : c.loop-p.p.at < c.args.parts.now.n = inner _ _ _ _ _ c.loop-p.invariant c.if-p.false in
     let h = inside in omega arith
 
 pub facts-of-requires : goal.facts-of-requires
@@ -77,5 +77,5 @@ facts-of-requires c = c.requires.5
 
 pub end-requires : goal.end-requires
 end-requires c =
-    let inside : c.loop-p.p.at < c.args.n = inner _ _ _ _ _ c.loop-p.invariant c.if-p.false in
+    let inside : c.loop-p.p.at < c.args.parts.now.n = inner _ _ _ _ _ c.loop-p.invariant c.if-p.false in
     let h = inside in omega arith

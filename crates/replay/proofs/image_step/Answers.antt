@@ -4,11 +4,11 @@ use Rattle.replay.proofs.Laws.{steps-as, fails-as, image-ends, image-cut, image-
 use Rattle.replay.proofs.image_step.Goals as goal
 
 pub returns-then-n-at-lt4-clause-value : goal.returns-then-n-at-lt4-clause-value
-returns-then-n-at-lt4-clause-value g c = image-ends _ _ c.if-n-at-lt4.true c.early.ensures.0
+returns-then-n-at-lt4-clause-value g c = image-ends _ _ c.if-n-at-lt4.true refl
 
 pub returns-then-n-from-clause-value : goal.returns-then-n-from-clause-value
 returns-then-n-from-clause-value g c =
-    image-cut _ _ c.u32_at-size.result c.if-n-at-lt4.false c.u32_at-size.ensures.0 c.if-n-from.true c.early-then-n-from.ensures.0
+    image-cut _ _ c.u32_at-size.result c.if-n-at-lt4.false c.u32_at-size.ensures.0 c.if-n-from.true refl
 
 pub returns-clause-value : goal.returns-clause-value
 returns-clause-value g c =
