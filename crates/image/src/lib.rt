@@ -147,13 +147,6 @@ fn layout_ok(s: &[u8], image: Image) -> bool
     text <= s.len()
 }
 
-// A byte as a usize.
-pub fn wide(b: u8) -> usize
-    ensures { (result ≡ b) × (result < 256) }
-{
-    usize::from(b)
-}
-
 // The u16 at byte k.
 pub fn half_at(s: &[u8], k: usize) -> usize
     requires { k + 1 < length s.now }
