@@ -13,9 +13,6 @@ use Rattle.rules.specs.Tree.{Tree}
 use Rattle.rules.specs.Vocabulary.{Rec}
 use Rattle.rules.specs.Linear.{linear}
 use Rattle.typeck.specs.Face.{Judged, Replied}
-use Rattle.passes.specs.declared.Verdict.{Verdict}
-use Rattle.typeck.specs.declared.Reply.{Reply}
-use Rattle.typeck.specs.declared.Listed.{Listed}
 use Rattle.recording.specs.declared.tell.Numbers.{Numbers}
 use Rattle.recording.specs.declared.list.Part.{Part}
 use Rattle.recording.specs.declared.list.Parts.{Parts}

@@ -1,6 +1,6 @@
 -- What `replay` counts: how many of the recorded answers are not those that the public face gives by its contracts.
 -- f is the file, `at` a place in it, n the recorded refusal of an image, s the image.
-use Rattle.std.specs.Prelude.{ℕ, zero, suc, ◌+◌, ◌*◌, ◌-◌, Bool, true, false, List, ◌++◌, eqb, ltb, length, get_or, replicate, take, drop, Option, Some, None}
+use Rattle.std.specs.Prelude.{ℕ, zero, suc, ◌+◌, ◌*◌, ◌-◌, Bool, true, false, List, ◌++◌, eqb, ltb, length, get_or, replicate, take, drop, Option, Some, None, Ok, Err}
 use Rattle.image.specs.Pick.{pick}
 use Rattle.image.specs.Node.{full_word}
 use Rattle.image.specs.Admit.{refusal}
@@ -11,13 +11,8 @@ use Rattle.rules.specs.Access.{access}
 use Rattle.rules.specs.Linear.{linear}
 use Rattle.rules.specs.Model.{is_state, is_declared_asset, is_known_asset}
 use Rattle.rules.specs.Answers.{pass_answer, ask, list_answer, list_buffer}
-use Rattle.typeck.specs.Face.{verdict_of, reply_of, listed_of, part_answer, part_words}
-use Rattle.passes.specs.declared.Verdict.{Verdict}
-use Rattle.passes.specs.declared.Verdict.TheVariants as verdict
-use Rattle.typeck.specs.declared.Reply.{Reply}
-use Rattle.typeck.specs.declared.Reply.TheVariants as reply
-use Rattle.typeck.specs.declared.Listed.{Listed}
-use Rattle.typeck.specs.declared.Listed.TheVariants as listed
+use Rattle.image.specs.Refusals.{number_of}
+use Rattle.typeck.specs.Face.{Verdict, verdict_of, Reply, reply_of, one_of, Listed, unlisted_by, listed_of, part_answer, part_words}
 use Rattle.recording.specs.declared.tell.Numbers.{Numbers}
 use Rattle.recording.specs.declared.list.Part.{Part}
 use Rattle.recording.specs.declared.list.Parts.{Parts}
@@ -29,18 +24,17 @@ use Rattle.replay.specs.declared.Step.{Step}
 
 -- The answers as numbers
 abbrev pub of_verdict : Verdict → Numbers
-of_verdict (verdict.Image r) = numbers r 0 0 0 0 0
-of_verdict verdict.Accepted = numbers 0 0 0 0 0 0
-of_verdict (verdict.Refused c p f t) = numbers 0 c p f t 0
+of_verdict (Err r) = numbers (number_of r) 0 0 0 0 0
+of_verdict (Ok None) = numbers 0 0 0 0 0 0
+of_verdict (Ok (Some o)) = numbers 0 o.code o.place o.from o.to 0
 
 abbrev pub of_reply : Reply → Numbers
-of_reply (reply.Image r) = numbers r 0 0 0 0 0
-of_reply reply.Yes = numbers 0 1 0 0 0 0
-of_reply reply.No = numbers 0 0 0 0 0 0
+of_reply (Err r) = numbers (number_of r) 0 0 0 0 0
+of_reply (Ok b) = numbers 0 (one_of b) 0 0 0 0
 
 abbrev pub of_listed : Listed → Numbers
-of_listed (listed.Refused r) = numbers r 0 0 0 0 0
-of_listed (listed.Records k) = numbers 0 k 0 0 0 0
+of_listed (Err r) = numbers (unlisted_by r) 0 0 0 0 0
+of_listed (Ok k) = numbers 0 k 0 0 0 0
 
 -- The refusal; a pass, and the three of them
 abbrev pub refusal_difference : ℕ → List ℕ → ℕ

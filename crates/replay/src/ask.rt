@@ -3,7 +3,7 @@ ghost use Rattle.std.specs.Prelude.{◌≡◌, length};
 ghost use Rattle.replay.specs.Differences.{of_verdict, of_reply, of_listed, listed_for, words_for};
 
 use recording::Numbers;
-use typeck::{Listed, Reply, Verdict};
+use typeck::{Refusal, Unlisted, Verdict};
 
 // Which list is asked for.
 #[derive(Clone, Copy)]
@@ -18,44 +18,38 @@ pub fn of_verdict(verdict: Verdict) -> Numbers
     ensures { result ≡ of_verdict verdict }
 {
     match verdict {
-        Verdict::Image(refusal) => Numbers(refusal, 0, 0, 0, 0, 0),
-        Verdict::Accepted => Numbers(0, 0, 0, 0, 0, 0),
-        Verdict::Refused {
-            code,
-            place,
-            from,
-            to,
-        } => Numbers(
+        Err(refusal) => Numbers(refusal.number(), 0, 0, 0, 0, 0),
+        Ok(None) => Numbers(0, 0, 0, 0, 0, 0),
+        Ok(Some(offence)) => Numbers(
             0,
-            recording::wide_u16(code),
-            recording::wide_u16(place),
-            recording::wide_u32(from),
-            recording::wide_u32(to),
+            usize::from(offence.code),
+            usize::from(offence.place),
+            recording::wide_u32(offence.from),
+            recording::wide_u32(offence.to),
             0,
         ),
     }
 }
 
-pub fn of_reply(reply: Reply) -> Numbers
+pub fn of_reply(reply: Result<bool, Refusal>) -> Numbers
     ensures { result ≡ of_reply reply }
 {
     match reply {
-        Reply::Image(refusal) => Numbers(refusal, 0, 0, 0, 0, 0),
-        Reply::Yes => Numbers(0, 1, 0, 0, 0, 0),
-        Reply::No => Numbers(0, 0, 0, 0, 0, 0),
+        Err(refusal) => Numbers(refusal.number(), 0, 0, 0, 0, 0),
+        Ok(yes) => Numbers(0, usize::from(yes), 0, 0, 0, 0),
     }
 }
 
-pub fn of_listed(listed: Listed) -> Numbers
+pub fn of_listed(listed: Result<usize, Unlisted>) -> Numbers
     ensures { result ≡ of_listed listed }
 {
     match listed {
-        Listed::Refused(refusal) => Numbers(refusal, 0, 0, 0, 0, 0),
-        Listed::Records(count) => Numbers(0, count, 0, 0, 0, 0),
+        Err(unlisted) => Numbers(unlisted.number(), 0, 0, 0, 0, 0),
+        Ok(count) => Numbers(0, count, 0, 0, 0, 0),
     }
 }
 
-pub fn list_of(asked: Asked, image: &[u8], words: &mut [u16]) -> Listed
+pub fn list_of(asked: Asked, image: &[u8], words: &mut [u16]) -> Result<usize, Unlisted>
     ensures { (result ≡ listed_for asked image.now (length words.old)) × (words.new ≡ words_for asked image.now words.old) }
 {
     match asked {

@@ -15,7 +15,7 @@ ghost use Rattle.replay.specs.Differences.{name_told, names_told, answers_told, 
 use recording::{Case, Numbers, RECORD_BYTES};
 use std::io;
 use std::process::ExitCode;
-use typeck::{Reply, Verdict};
+use typeck::{Refusal, Verdict};
 
 // More than the recorded answers have: input that fills it is too long.
 const ROOM: usize = 450000;
@@ -63,7 +63,7 @@ fn passes_differ(
     ensures err { OnErr result (0 < pass_differences file.now at case.refusal image.now) }
 {
     let recorded = Numbers(case.refusal, 0, 0, 0, 0, 0);
-    let refused = Numbers(typeck::refused(image), 0, 0, 0, 0, 0);
+    let refused = ask::of_refusal(typeck::refused(image));
     let a = recording::differs(rt, case, "refused", recorded, refused)?;
     let b = pass_differs(rt, case, "resolve", file, at, typeck::resolve(image))?;
     let c = pass_differs(rt, case, "access", file, at + 12, typeck::access(image))?;
@@ -116,7 +116,7 @@ fn reply_differs(
     asked: &str,
     file: &[u8],
     at: usize,
-    reply: Reply,
+    reply: Result<bool, Refusal>,
 ) -> io::Result<usize>
     requires { at < length file.now }
     ensures ok { IfOk result (λ n. (n ≡ difference (reply_at file.now at case.refusal) (of_reply reply)) × (n ≤ 1)) }
