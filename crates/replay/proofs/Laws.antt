@@ -12,7 +12,7 @@ use Rattle.image.specs.Node.{full_word}
 use Rattle.rules.specs.Tree.{Tree}
 use Rattle.rules.specs.Vocabulary.{Rec}
 use Rattle.rules.specs.Linear.{linear}
-use Rattle.typeck.specs.Face.{Judged, Replied}
+use Rattle.typeck.specs.Face.{Verdict, Reply, Listed, Judged, Replied}
 use Rattle.recording.specs.declared.tell.Numbers.{Numbers}
 use Rattle.recording.specs.declared.list.Part.{Part}
 use Rattle.recording.specs.declared.list.Parts.{Parts}

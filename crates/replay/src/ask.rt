@@ -1,5 +1,10 @@
 // The answers of the public face, as the numbers in which they are recorded.
 ghost use Rattle.std.specs.Prelude.{◌≡◌, length};
+ghost use Rattle.rules.specs.Resolve.{resolve};
+ghost use Rattle.rules.specs.Access.{access};
+ghost use Rattle.rules.specs.Linear.{linear};
+ghost use Rattle.recording.specs.Told.{head_of};
+ghost use Rattle.typeck.specs.Face.{Judged, refused_as};
 ghost use Rattle.replay.specs.Differences.{of_verdict, of_reply, of_listed, listed_for, words_for};
 
 use recording::Numbers;
@@ -12,6 +17,40 @@ pub enum Asked {
     Resolve,
     Access,
     Linear,
+}
+
+pub fn of_refusal(refused: Option<Refusal>) -> Numbers
+    ensures { result ≡ head_of (refused_as refused) 0 }
+{
+    match refused {
+        None => Numbers(0, 0, 0, 0, 0, 0),
+        Some(refusal) => Numbers(refusal.number(), 0, 0, 0, 0, 0),
+    }
+}
+
+// The verdicts of all passes, asked for at once.
+#[derive(Clone, Copy)]
+pub struct Verdicts {
+    pub resolve: Verdict,
+    pub access: Verdict,
+    pub linear: Verdict,
+}
+
+pub fn verdicts(image: &[u8]) -> Verdicts
+    ensures { Judged resolve image.now result.resolve × Judged access image.now result.access × Judged linear image.now result.linear }
+{
+    match typeck::verdicts(image) {
+        Err(refusal) => Verdicts {
+            resolve: Err(refusal),
+            access: Err(refusal),
+            linear: Err(refusal),
+        },
+        Ok(answers) => Verdicts {
+            resolve: Ok(answers.resolve),
+            access: Ok(answers.access),
+            linear: Ok(answers.linear),
+        },
+    }
 }
 
 pub fn of_verdict(verdict: Verdict) -> Numbers

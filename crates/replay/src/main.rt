@@ -83,13 +83,10 @@ fn verdicts_differ(
     ensures ok { IfOk result (λ n. (n ≡ verdict_differences file.now at case.refusal image.now) × (n ≤ 3)) }
     ensures err { OnErr result (0 < verdict_differences file.now at case.refusal image.now) }
 {
-    let answers = typeck::verdicts(image);
-    let resolve = answers.resolve;
-    let access = answers.access;
-    let linear = answers.linear;
-    let a = pass_differs(rt, case, "verdicts, resolve", file, at, resolve)?;
-    let b = pass_differs(rt, case, "verdicts, access", file, at + 12, access)?;
-    let c = pass_differs(rt, case, "verdicts, linear", file, at + 24, linear)?;
+    let verdicts = ask::verdicts(image);
+    let a = pass_differs(rt, case, "verdicts, resolve", file, at, verdicts.resolve)?;
+    let b = pass_differs(rt, case, "verdicts, access", file, at + 12, verdicts.access)?;
+    let c = pass_differs(rt, case, "verdicts, linear", file, at + 24, verdicts.linear)?;
     Ok(a + b + c)
 }
 
