@@ -51,7 +51,7 @@ pub fn is_bodied(k: usize) -> bool
     matches!(k, GENESIS | ENTRY)
 }
 
-// The entry that the nodes of an item of kind k stand in: the item itself, if it is an Entry; else none, 0.
+// The entry that the nodes of an item of kind k stand in: the item itself, if it is an Entry; else none, 0, which the entry word of a record is then.
 #[tactic(auto, using(std::proofs::lemmas::Bool::Decides::nat_tests))]
 pub fn entry_of(k: usize, item: usize) -> usize
     ensures { result ≡ pick (eqb k 9) item 0 }

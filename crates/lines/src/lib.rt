@@ -5,21 +5,12 @@
 ghost use Rattle.std.specs.Prelude.{◌≡◌, [], ◌∷◌, ◌+◌, ◌<◌, ◌≤◌, ◌^◌, length, set};
 ghost use Rattle.lines.specs.Line.{digits, rest, Printed};
 
-// Stores b at i, if the buffer has such a byte.
-fn store(out: &mut [u8], i: usize, b: u8)
-    ensures { out.new ≡ set out.old i b }
-{
-    if i < out.len() {
-        out[i] = b;
-    }
-}
-
 // One byte.
 fn put(out: &mut [u8], at: usize, b: u8) -> usize
     requires { at < 2 ^ 60 }
     ensures { Printed out.old at (b ∷ []) out.new result × (result ≡ at + 1) }
 {
-    store(out, at, b);
+    records::put(out, at, b);
     at + 1
 }
 

@@ -14,7 +14,7 @@ ghost use Rattle.model.specs.Assets.{Assets, AssetWords, TypesEnd, Inside, Gains
 use image::Image;
 use nodes::{ASSET, Children, Declarations, ENTRY, FIELD_DECL, Marks, TYPE};
 
-// The questions about a name.
+// The questions about a name. A case and not a closure that is handed in: contracts say what each asks, by `question_of`, and no caller has a fourth.
 #[derive(Clone, Copy)]
 pub enum Question {
     State,

@@ -52,7 +52,7 @@ fn count_before(image: &[u8], head: Image, name_text: &[u8]) -> usize
     low
 }
 
-// The number of a word; 0 where no name of the image has these bytes.
+// The number of a word; 0 where no name of the image has these bytes. No `Option`: no node has name number 0, so rules compare numbers without a test for it.
 pub fn number_of(image: &[u8], head: Image, name_text: &[u8]) -> usize
     requires { Admitted image.now head }
     ensures { Numbered image.now name_text.now result }

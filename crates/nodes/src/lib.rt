@@ -172,7 +172,7 @@ pub fn mark_parts(sort: usize, nodes: &[u8], entry: usize, to: usize, on: bool, 
     }
 }
 
-// What is taken off on the way down an expression: Checked and Wrapping, Fields, or all three.
+// What is taken off on the way down an expression: Checked and Wrapping, Fields, or all three. A case and not a closure: contracts say what each takes off, by `taken_off`.
 #[derive(Clone, Copy)]
 pub enum Past {
     Peels,

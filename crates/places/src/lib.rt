@@ -12,7 +12,7 @@ use nodes::{Children, Declarations};
 // One node for each of 1,024 names, by name number less one; 0 where there is none.
 pub type Places = [u16; Image::NAMES];
 
-// What is noted for a name at a node that has it: that node, if none is noted yet; that node; none.
+// What is noted for a name at a node that has it: that node, if none is noted yet; that node; none. A case and not a closure: contracts say what each notes, by `noting`.
 #[derive(Clone, Copy)]
 pub enum Note {
     First,
@@ -20,7 +20,7 @@ pub enum Note {
     Off,
 }
 
-// The node that is noted for the word of node p; 0 where none is.
+// The node that is noted for the word of node p; 0 where none is. No `Option`: rules ask whether a node stands before it, which needs no test for 0.
 pub fn at(places: &Places, nodes: &[u8], base: usize, p: usize) -> usize
     requires { Worded nodes.now base p }
     ensures { (result < 65536) × ((W : View nodes.now base) (F : List ℕ → ℕ) → Places W.image F places.now → result ≡ F ((tree_of W).text p)) }

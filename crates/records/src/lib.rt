@@ -5,12 +5,12 @@ ghost use Rattle.std.specs.Prelude.{◌≡◌, [], ◌∷◌, ℕ, ◌+◌, ◌*
 ghost use Rattle.rules.specs.Vocabulary.{rec, only};
 ghost use Rattle.records.specs.Records.{Adds, under, hit_list};
 
-// Stores w at i, if the buffer has such a word.
-pub fn put(out: &mut [u16], i: usize, w: u16)
-    ensures { out.new ≡ set out.old i w }
+// Stores x at i, if the buffer has such a place.
+pub fn put<T: Copy>(out: &mut [T], i: usize, x: T)
+    ensures { out.new ≡ set out.old i x }
 {
     if i < out.len() {
-        out[i] = w;
+        out[i] = x;
     }
 }
 

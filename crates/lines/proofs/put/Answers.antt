@@ -4,4 +4,4 @@ use Rattle.lines.proofs.Laws.{wrote-byte}
 use Rattle.lines.proofs.put.Goals as goal
 
 pub returns : goal.returns
-returns c = (wrote-byte _ _ c.store.ensures, refl)
+returns c = (wrote-byte _ _ c.put.ensures, refl)

@@ -4,4 +4,4 @@ use mathlib.Core.Path.{sym}
 use Rattle.records.proofs.put.Goals as goal
 
 pub returns-else-i-out : goal.returns-else-i-out
-returns-else-i-out c = sym (set_out _ _ _ c.if-i-out.false)
+returns-else-i-out g c = sym (set_out _ _ _ c.if-i-out.false)
