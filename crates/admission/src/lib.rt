@@ -92,13 +92,7 @@ fn used_ok(marks: &[bool; Image::NAMES + 1], m: usize) -> bool
 }
 
 // Refusals 5 to 8 of the three parts of an image. Each is settled for the whole image before the next is looked at.
-fn judge(
-    nodes: &[u8],
-    names: &[u8],
-    text: &[u8],
-    n: usize,
-    m: usize,
-) -> Result<(), Refusal>
+fn judge(nodes: &[u8], names: &[u8], text: &[u8], n: usize, m: usize) -> Result<(), Refusal>
     requires { (1 ≤ n) × (n ≤ max_nodes) × (16 * n ≤ length nodes.now) × (2 * m + 2 ≤ length names.now) × (m ≤ max_names) }
     ensures { refused_by result ≡ body_refusal nodes.now names.now text.now n m }
 {

@@ -11,8 +11,8 @@ ghost use Rattle.why.specs.Sought.{NoEntryAt, EntryAt, NoRowAt, RowAt};
 ghost use Rattle.why.specs.declared.Untold.TheVariants.{Image};
 ghost use Rattle.why.specs.Face.{Explains, untold_by};
 
-pub use image::Refusal;
 use image::Image;
+pub use image::Refusal;
 use linear_tracked::Cells;
 use nodes::{Children, ENTRY, Marks};
 use places::Places;

@@ -78,6 +78,6 @@ returns-else-at-eq0 c =
 pub returns-in_default : goal.returns-in_default
 returns-in_default c =
     let under : (W : View c.args.nodes.now 0) → c.down-value.result < (tree_of W).end (c.args.p + 2) = λ W. let e = c.end.ensures W in let h = c.if-end-value.false in omega arith in
-    λ T. let W = T.known.view in 
+    λ T. let W = T.known.view in
     let other : (n : ℕ) → (c.kind.result ≡ n → ⊥) → (tree_of W).kind c.down-value.result ≡ n → ⊥ = λ n o e. o (c.kind.ensures W ∙ e) in
     let-other (tree_of W) T.entry _ (c.requires.1 W) _ (c.down-value.ensures.1 W) (under W) (other 43 (search rules)) (other 35 (search rules))

@@ -37,6 +37,6 @@ pub returns-in-25 : goal.returns-in-25
 returns-in-25 c = c.let_part.ensures
 
 pub returns-in_default : goal.returns-in_default
-returns-in_default c = λ T. let W = T.known.view in 
+returns-in_default c = λ T. let W = T.known.view in
     let other : (n : ℕ) → (c.kind.result ≡ n → ⊥) → (tree_of W).kind c.args.p ≡ n → ⊥ = λ n o e. o (c.kind.ensures W ∙ e) in
     part-other (tree_of W) T.entry _ (other 10 (search rules)) (other 25 (search rules))
