@@ -8,7 +8,7 @@ ghost use Rattle.image.specs.Maxima.{max_nodes, max_names, max_depth};
 ghost use Rattle.image.specs.Digits.{Rooted, WalkTables, mark_at, next_states, kind_table};
 ghost use Rattle.image.specs.Text.{names_ok};
 ghost use Rattle.image.specs.Tree.{node_ok, tree_ok, depth_ok, used_in};
-ghost use Rattle.image.specs.Refusals.{refused_by};
+ghost use Rattle.admission.specs.Refused.{refused_by};
 ghost use Rattle.image.specs.Admit.{body_refusal, refusal, admission_of};
 
 use children::{KINDS, Kinds, MAY_END, Nexts, ROW, TEXT};
