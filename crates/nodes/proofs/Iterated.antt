@@ -5,7 +5,7 @@ use mathlib.Core.List.{List}
 use native.Mathlib.Omega.{arith}
 use Rattle.nodes.specs.Shown.{View, In, tree_of}
 use Rattle.nodes.specs.declared.walk.Children.{Children}
-use Rattle.nodes.specs.Chain.{Ended, Stepped, Begun}
+use Rattle.nodes.specs.Chain.{Ended, Gave, Begun}
 
 -- the walk is one in the part whose first node is number `b`, up to `to`
 pub record Over (part : List ℕ) (b to : ℕ) (s : Children) : Type 0 where
@@ -37,9 +37,9 @@ pub ends-at : (a : ℕ) {part : List ℕ} {b : ℕ} {s s' : Children} → s' ≡
 ends-at a e f W = rw e (f W)
 
 pub turn : {part : List ℕ} {b to child : ℕ} {s t : Children} → Over part b to s
-    → (t.nodes.now ≡ s.nodes.now) × (t.rest.base ≡ s.rest.base) × (t.rest.end ≡ s.rest.end) × Stepped s.nodes.now s.rest.base s.rest.at s.rest.end child t.rest.at → Turn part b to s child t
+    → (t.nodes.now ≡ s.nodes.now) × (t.rest.base ≡ s.rest.base) × (t.rest.end ≡ s.rest.end) × Gave s.nodes.now s.rest.base s.rest.at s.rest.end child t.rest.at → Turn part b to s child t
 turn {part} {b} {to} {child} {s} {t} o g =
-    let p : Stepped part b s.rest.at to child t.rest.at = rw (← o.nodes, ← o.base, ← o.last) g.3 in
+    let p : Gave part b s.rest.at to child t.rest.at = rw (← o.nodes, ← o.base, ← o.last) g.3 in
     record {
       is = p.is;
       before = let z = p.is in let h = p.before in omega arith;

@@ -18,7 +18,7 @@ pub record Ended (at to : ℕ) : Type 0 where
   pub done : to ≤ at
 
 -- the walk gives the child that it stood at, and stands at that child's end
-pub record Stepped (part : List ℕ) (b at to child at' : ℕ) : Type 0 where
+pub record Gave (part : List ℕ) (b at to child at' : ℕ) : Type 0 where
   pub is : child ≡ at
   pub before : at < to
   pub here : In part b child

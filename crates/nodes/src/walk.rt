@@ -2,7 +2,7 @@
 ghost use Rattle.std.specs.Prelude.{◌≡◌, ℕ, ◌+◌, ◌-◌, ◌<◌, MatchOption};
 ghost use Rattle.std.specs.Iterator.{at_most};
 ghost use Rattle.rules.specs.Tree.{state};
-ghost use Rattle.nodes.specs.Chain.{Chain, Ended, Stepped, Begun, Visited};
+ghost use Rattle.nodes.specs.Chain.{Chain, Ended, Gave, Begun, Visited};
 ghost use Rattle.nodes.specs.Walk.{onward};
 ghost use Rattle.nodes.specs.Shown.{View, In, tree_of};
 ghost use Rattle.nodes.specs.First.{Head, Until};
@@ -20,7 +20,7 @@ pub struct Children<'a> {
 impl<'a> Iterator for Children<'a> {
     type Item = usize;
 
-    ghost next_gives = { λ s r t. (t.nodes.now ≡ s.nodes.now) × (t.rest.base ≡ s.rest.base) × (t.rest.end ≡ s.rest.end) × MatchOption r (Ended s.rest.at s.rest.end) (λ child. Stepped s.nodes.now s.rest.base s.rest.at s.rest.end child t.rest.at) };
+    ghost next_gives = { λ s r t. (t.nodes.now ≡ s.nodes.now) × (t.rest.base ≡ s.rest.base) × (t.rest.end ≡ s.rest.end) × MatchOption r (Ended s.rest.at s.rest.end) (λ child. Gave s.nodes.now s.rest.base s.rest.at s.rest.end child t.rest.at) };
 
     ghost remaining = { λ s. at_most (s.rest.end - s.rest.at) };
 

@@ -5,7 +5,7 @@ use Rattle.rules.specs.Tree.{Tree, entry}
 use Rattle.rules.specs.Vocabulary.{Rec, named}
 use Rattle.rules.specs.Resolve.{rule23}
 use Rattle.nodes.specs.Shown.{View, In, tree_of}
-use Rattle.nodes.specs.Chain.{Stepped}
+use Rattle.nodes.specs.Chain.{Gave}
 use Rattle.nodes.specs.declared.walk.Children.{Children}
 use Rattle.nodes.specs.Marks.{Marks}
 
@@ -53,7 +53,7 @@ pub record NextParam (s t : Children) : Type 0 where
 
 -- it gave a parameter; and it stood at none
 pub record AtParam (s t : Children) (p : ℕ) : Type 0 where
-  pub step : Stepped s.nodes.now s.rest.base s.rest.at s.rest.end p t.rest.at
+  pub step : Gave s.nodes.now s.rest.base s.rest.at s.rest.end p t.rest.at
   pub is : (W : View s.nodes.now 0) → (tree_of W).kind p ≡ 10
 
 pub record AtNoParam (s : Children) : Type 0 where
