@@ -108,7 +108,7 @@ const SIGNER: usize = 30;
 
 const STATES: usize = 31;
 
-// For each state, the one after a child of each of 16 families.
+// For each state, the one after a child of each of 16 families. One array, as `next_states` of the definitions is one list.
 pub type Nexts = [u8; TEXT * STATES];
 
 // One number for each kind.

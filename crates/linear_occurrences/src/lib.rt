@@ -12,7 +12,7 @@ use image::Image;
 use names::Words;
 use nodes::{ASSIGN, CALL, Children, IDENT, Marks, Past};
 
-// For each of 2,048 nodes, by its number, the Assign or the Call that takes it; 0 where none does, as node 0 is the contract.
+// For each of 2,048 nodes, by its number, the Assign or the Call that takes it; 0 where none does, as node 0 is the contract. A table of set size, as document 01 names the form, and no map.
 pub type Consumers = [u16; Image::NODES];
 
 // A counted occurrence: its Ident and the node that consumes it.

@@ -10,7 +10,6 @@ ghost use Rattle.linear_rows.specs.Tallies.{marks_at, count_at, related_at, judg
 use linear_tracked::Cells;
 
 // Three cells for each of the at most 511 rows of an entry: burn marks, counted occurrences, and that one of these which 62 is related to.
-// Cells by number, and not rows of three fields: the definitions that the contracts of other crates cite (`marks_at`, `count_at`, `related_at`, `Blanks`) speak of cells by number.
 pub type Tallies = [u16; 1533];
 
 pub const MARKS: usize = 0;

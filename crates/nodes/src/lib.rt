@@ -18,7 +18,7 @@ mod walk;
 use image::Image;
 pub use walk::{Children, Declarations};
 
-// One mark for each of 1,024 names, by name number less one.
+// One mark for each of 1,024 names, by name number less one: a table of set size, as document 01 names the form, and no map.
 pub type Marks = [bool; Image::NAMES];
 
 // The kinds of document 01 that the passes name.

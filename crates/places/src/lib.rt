@@ -9,7 +9,7 @@ ghost use Rattle.places.specs.Places.{Places, Notes, taken, noting, notes_below,
 use image::Image;
 use nodes::{Children, Declarations};
 
-// One node for each of 1,024 names, by name number less one; 0 where there is none.
+// One node for each of 1,024 names, by name number less one; 0 where there is none. A table of set size, as document 01 names the form, and no map.
 pub type Places = [u16; Image::NAMES];
 
 // What is noted for a name at a node that has it: that node, if none is noted yet; that node; none. A case and not a closure: contracts say what each notes, by `noting`.
