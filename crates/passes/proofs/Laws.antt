@@ -34,7 +34,7 @@ use Rattle.nodes.proofs.Admission.{refused-number}
 use Rattle.passes.specs.declared.Offence.{Offence}
 use Rattle.passes.specs.declared.Pass.{Pass}
 use Rattle.passes.specs.declared.Pass.TheVariants as pass
-use Rattle.passes.specs.Verdicts.{Verdict, answer_of, verdict_of, refused_with, Judged, records_of, verdict_by}
+use Rattle.passes.specs.Verdicts.{Verdict, answer_of, verdict_of, Judged, records_of, verdict_by}
 
 -- A pass: the first record, from a buffer of four words
 
@@ -45,6 +45,9 @@ sets-out (w ∷ ws) l i h = ap (λ (m : List ℕ). sets m (suc i) ws) (set_out l
 pub first_none : (s : List ℕ) {e : ℕ → ℕ} (l : List Rec) {o : List ℕ} {k : ℕ} → Laid e (replicate 4 0) 0 l o k → k ≡ 0 → None ≡ verdict_by s l
 first_none s [] L e = refl
 first_none s (r ∷ l) {o} {k} L z = let c : k ≡ 0 + suc (length l) = L.count in absurd (omega arith)
+
+abbrev told : Option Offence → Verdict
+told o = Ok o
 
 abbrev refused : Offence → Option Offence
 refused o = Some o
@@ -59,7 +62,7 @@ first_one s {e} (r ∷ l) {o} L n z x y =
 case-image : (r : ℕ) → (r ≡ 0 → ⊥) → r ≤ 8 → Err (refusal_of r) ≡ verdict_of (rules.image_refused r)
 case-image r n h = sym (simp (ne_eqb r 0 n, lt-ltb r 9 (omega arith)))
 
-case-code : (a : rules.Answer) → 9 ≤ a.number → Ok (Some (refused_with a)) ≡ verdict_of a
+case-code : (a : rules.Answer) → 9 ≤ a.number → told (refused (record { code = a.number; place = a.place; from = a.from; to = a.to })) ≡ verdict_of a
 case-code a h = sym (simp (ne_eqb a.number 0 (λ e. omega arith), le-ltb a.number 9 h))
 
 first-numbers : (s : List ℕ) (l : List Rec) → answer_of (Ok (verdict_by s l)) ≡ rules.verdict s l
@@ -87,9 +90,6 @@ judged-refused pass s k e =
       numbers = ap rules.image_refused d ∙ sym (pass-refused pass s n);
       case = ap no_image (refused-is (refusal s) s k e).1 ∙ case-image (refusal s) n (refusal-most s) ∙ sym (ap verdict_of (pass-refused pass s n));
     }
-
-abbrev told : Option Offence → Verdict
-told o = Ok o
 
 first_part : (p : passes.PassRules) (s : List ℕ) → 9 ≤ p.least → Judges (tree s) p → Ok (verdict_by s (p.part (tree s))) ≡ verdict_of (rules.verdict s (p.part (tree s)))
 first_part p s h j = ap (λ (l : List Rec). told (verdict_by s l)) (sym j.part) ∙ first-case s p (offences (tree s)) h ∙ ap (λ (l : List Rec). verdict_of (rules.verdict s l)) j.part

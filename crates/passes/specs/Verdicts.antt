@@ -24,14 +24,9 @@ answer_of (Err r) = rules.image_refused (number_of r)
 answer_of (Ok None) = rules.accepted
 answer_of (Ok (Some o)) = record { number = o.code; place = o.place; from = o.from; to = o.to }
 
-abbrev pub refused_with : rules.Answer → Offence
-refused_with a = record { code = a.number; place = a.place; from = a.from; to = a.to }
-
 -- 0 acceptance, 1 to 8 the image's refusal, else a code
 abbrev pub verdict_of : rules.Answer → Verdict
-verdict_of a =
-    pick (eqb a.number 0) (Ok None)
-    (pick (ltb a.number 9) (Err (refusal_of a.number)) (Ok (Some (refused_with a))))
+verdict_of a = pick (eqb a.number 0) (Ok None) (pick (ltb a.number 9) (Err (refusal_of a.number)) (Ok (Some (record { code = a.number; place = a.place; from = a.from; to = a.to }))))
 
 abbrev pub Judged : (Tree → List Rec) → List ℕ → Verdict → Type 0
 Judged pass s v = Stands answer_of verdict_of (rules.pass_answer pass s) v

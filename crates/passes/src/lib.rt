@@ -27,7 +27,7 @@ pub struct Offence {
     pub to: u32,
 }
 
-// The passes, in the order that they run in.
+// The passes, in the order that they run in. A case and not a closure: contracts say what each lists, by `records_of`.
 #[derive(Clone, Copy, PartialEq, Eq)]
 pub enum Pass {
     Resolve,

@@ -26,8 +26,8 @@ use Rattle.rules.proofs.Answers.{list-short, list-listed, buffer-listed, buffer-
 use Rattle.records.proofs.Sweep.{run_none, run-next, run-split}
 use Rattle.passes.specs.declared.Offence.{Offence}
 use Rattle.typeck.specs.declared.Unlisted.{Unlisted}
-use Rattle.typeck.specs.Face.{Stands, Listed, answer_of, unlisted_by, listing_of, listed_of}
-use Rattle.typeck.proofs.Laws.{unlisted-positive}
+use Rattle.typeck.specs.Face.{Stands, answer_of, unlisted_by, listing_of, listed_of}
+use Rattle.typeck.proofs.Laws.{Listed, unlisted-positive}
 use Rattle.nodes.proofs.Admission.{refused-number}
 use Rattle.lines.specs.Line.{digits, rest, Printed}
 use Rattle.lines.proofs.Laws.{wrote-join, wrote_as, few-five, few-ten, rest-length}

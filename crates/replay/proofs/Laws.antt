@@ -12,7 +12,9 @@ use Rattle.image.specs.Node.{full_word}
 use Rattle.rules.specs.Tree.{Tree}
 use Rattle.rules.specs.Vocabulary.{Rec}
 use Rattle.rules.specs.Linear.{linear}
-use Rattle.typeck.specs.Face.{Verdict, Reply, Listed, Judged, Replied}
+use Rattle.image.specs.declared.Refusal.{Refusal}
+use Rattle.typeck.specs.declared.Unlisted.{Unlisted}
+use Rattle.typeck.specs.Face.{Verdict, Judged, Replied}
 use Rattle.recording.specs.declared.tell.Numbers.{Numbers}
 use Rattle.recording.specs.declared.list.Part.{Part}
 use Rattle.recording.specs.declared.list.Parts.{Parts}
@@ -53,18 +55,18 @@ pub judged-told : (pass : Tree → List Rec) (f : List ℕ) (at n : ℕ) (s : Li
     0 < difference (verdict_at f at n) (of_verdict v) → 0 < pass_difference pass f at n s
 judged-told pass f at n s J h = let e = judged-differs pass f at n s refl J in omega arith
 
-pub replied-differs : (asked : Tree → List ℕ → Bool) (f : List ℕ) (at n : ℕ) (s w : List ℕ) {v : Reply} {r : ℕ} →
+pub replied-differs : (asked : Tree → List ℕ → Bool) (f : List ℕ) (at n : ℕ) (s w : List ℕ) {v : Result Bool Refusal} {r : ℕ} →
     r ≡ difference (reply_at f at n) (of_reply v) → Replied asked s w v → r ≡ question_difference asked f at n s w
 unfolding question_difference
-replied-differs asked f at n s w e J = e ∙ ap (λ (v : Reply). difference (reply_at f at n) (of_reply v)) J.case
+replied-differs asked f at n s w e J = e ∙ ap (λ (v : Result Bool Refusal). difference (reply_at f at n) (of_reply v)) J.case
 
-pub replied-told : (asked : Tree → List ℕ → Bool) (f : List ℕ) (at n : ℕ) (s w : List ℕ) {v : Reply} → Replied asked s w v →
+pub replied-told : (asked : Tree → List ℕ → Bool) (f : List ℕ) (at n : ℕ) (s w : List ℕ) {v : Result Bool Refusal} → Replied asked s w v →
     0 < difference (reply_at f at n) (of_reply v) → 0 < question_difference asked f at n s w
 replied-told asked f at n s w J h = let e = replied-differs asked f at n s w refl J in omega arith
 
 -- The lists
 
-pub listed-as : (to : Asked) {a : Asked} (s w : List ℕ) {r : Listed} {w' : List ℕ} → a ≡ to → r ≡ listed_for to s (length w) →
+pub listed-as : (to : Asked) {a : Asked} (s w : List ℕ) {r : Result ℕ Unlisted} {w' : List ℕ} → a ≡ to → r ≡ listed_for to s (length w) →
     w' ≡ words_for to s w → (r ≡ listed_for a s (length w)) × (w' ≡ words_for a s w)
 listed-as to s w e p q =
     (p ∙ sym (ap (λ (a : Asked). listed_for a s (length w)) e), q ∙ sym (ap (λ (a : Asked). words_for a s w) e))

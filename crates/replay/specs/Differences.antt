@@ -1,6 +1,6 @@
 -- What `replay` counts: how many of the recorded answers are not those that the public face gives by its contracts.
 -- f is the file, `at` a place in it, n the recorded refusal of an image, s the image.
-use Rattle.std.specs.Prelude.{ℕ, zero, suc, ◌+◌, ◌*◌, ◌-◌, Bool, true, false, List, ◌++◌, eqb, ltb, length, get_or, replicate, take, drop, Option, Some, None, Ok, Err}
+use Rattle.std.specs.Prelude.{ℕ, zero, suc, ◌+◌, ◌*◌, ◌-◌, Bool, true, false, List, ◌++◌, eqb, ltb, length, get_or, replicate, take, drop, Option, Some, None, Result, Ok, Err}
 use Rattle.image.specs.Pick.{pick}
 use Rattle.image.specs.Node.{full_word}
 use Rattle.image.specs.Admit.{refusal}
@@ -12,7 +12,9 @@ use Rattle.rules.specs.Linear.{linear}
 use Rattle.rules.specs.Model.{is_state, is_declared_asset, is_known_asset}
 use Rattle.rules.specs.Answers.{pass_answer, ask, list_answer, list_buffer}
 use Rattle.image.specs.Refusals.{number_of}
-use Rattle.typeck.specs.Face.{Verdict, verdict_of, Reply, reply_of, one_of, Listed, unlisted_by, listed_of, part_answer, part_words}
+use Rattle.image.specs.declared.Refusal.{Refusal}
+use Rattle.typeck.specs.declared.Unlisted.{Unlisted}
+use Rattle.typeck.specs.Face.{Verdict, verdict_of, reply_of, one_of, unlisted_by, listed_of, part_answer, part_words}
 use Rattle.recording.specs.declared.tell.Numbers.{Numbers}
 use Rattle.recording.specs.declared.list.Part.{Part}
 use Rattle.recording.specs.declared.list.Parts.{Parts}
@@ -28,11 +30,11 @@ of_verdict (Err r) = numbers (number_of r) 0 0 0 0 0
 of_verdict (Ok None) = numbers 0 0 0 0 0 0
 of_verdict (Ok (Some o)) = numbers 0 o.code o.place o.from o.to 0
 
-abbrev pub of_reply : Reply → Numbers
+abbrev pub of_reply : Result Bool Refusal → Numbers
 of_reply (Err r) = numbers (number_of r) 0 0 0 0 0
 of_reply (Ok b) = numbers 0 (one_of b) 0 0 0 0
 
-abbrev pub of_listed : Listed → Numbers
+abbrev pub of_listed : Result ℕ Unlisted → Numbers
 of_listed (Err r) = numbers (unlisted_by r) 0 0 0 0 0
 of_listed (Ok k) = numbers 0 k 0 0 0 0
 
@@ -62,7 +64,7 @@ question_differences f at n s w =
     + question_difference is_known_asset f (at + 2) n s w
 
 -- A list that is asked for with `size` words: what is answered, the numbers of that, the words afterwards, those of a longer buffer
-abbrev pub listed_for : Asked → List ℕ → ℕ → Listed
+abbrev pub listed_for : Asked → List ℕ → ℕ → Result ℕ Unlisted
 listed_for asked.Whole s size = listed_of (list_answer s size)
 listed_for asked.Resolve s size = listed_of (part_answer resolve s)
 listed_for asked.Access s size = listed_of (part_answer access s)

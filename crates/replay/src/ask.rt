@@ -10,7 +10,7 @@ ghost use Rattle.replay.specs.Differences.{of_verdict, of_reply, of_listed, list
 use recording::Numbers;
 use typeck::{Refusal, Unlisted, Verdict};
 
-// Which list is asked for.
+// Which list is asked for. A case and not a closure: contracts say what each answers, by `listed_for`.
 #[derive(Clone, Copy)]
 pub enum Asked {
     Whole,

@@ -23,7 +23,7 @@ use Rattle.records.specs.Records.{words, Laid}
 use Rattle.nodes.proofs.Admission.{admitted-by, refused-number}
 use Rattle.typeck.specs.declared.Unlisted.{Unlisted}
 use Rattle.typeck.specs.declared.Unlisted.TheVariants as unlisted
-use Rattle.typeck.specs.Face.{Stands, refused_as, refusal_as, Reply, numbered, Replied, unlisted_by, unlisted_of, listing_of, listed_of, Listed, ListedAll, part_answer, part_words, ListedPart}
+use Rattle.typeck.specs.Face.{Stands, refused_as, refusal_as, numbered, Replied, unlisted_by, unlisted_of, listing_of, listed_of, ListedAll, part_answer, part_words, ListedPart}
 
 -- The refusal itself
 
@@ -40,6 +40,9 @@ refused-told s (Err k) e f =
     record { numbers = ap refused_as f ∙ d; case = f ∙ ap refusing r.1 ∙ sym (simp (ne_eqb (refusal s) 0 r.0)) }
 
 -- A question
+
+abbrev Reply : Type 0
+Reply = Result Bool Refusal
 
 abbrev no_reply : Refusal → Reply
 no_reply r = Err r
@@ -61,6 +64,9 @@ module _ (question : Tree → List ℕ → Bool) (s w : List ℕ) where
   replied-by e f = let n = eq-eqb (refusal s) 0 e in record { numbers = rw n (ap rules.replied f); case = rw n (ap reply f) }
 
 -- Lists
+
+abbrev pub Listed : Type 0
+Listed = Result ℕ Unlisted
 
 -- the refusal of a number is the one that has it
 unlisted-known : (r : Unlisted) → unlisted_of (unlisted_by r) ≡ r

@@ -16,30 +16,24 @@ use Rattle.typeck.specs.declared.Unlisted.TheVariants as unlisted
 
 -- the number of an image's refusal, 0 where it is admitted
 abbrev pub refused_as : Option Refusal → ℕ
-refused_as None = 0
-refused_as (Some r) = number_of r
+refused_as = elim [ None ↦ 0 | Some r ↦ number_of r ]
 
 abbrev pub refusal_as : ℕ → Option Refusal
 refusal_as r = pick (eqb r 0) None (Some (refusal_of r))
 
 -- one of the verdicts that are given at once
 abbrev pub verdict_in : (Answers → Option Offence) → Result Answers Refusal → Verdict
-verdict_in one (Err r) = Err r
-verdict_in one (Ok a) = Ok (one a)
+verdict_in one = elim [ Ok a ↦ Ok (one a) | Err r ↦ Err r ]
 
 -- A question about a name
 
-abbrev pub Reply : Type 0
-Reply = Result Bool Refusal
+abbrev pub numbered : Result Bool Refusal → rules.NameReply
+numbered = elim [ Ok b ↦ rules.replied b | Err r ↦ rules.reply_refused (number_of r) ]
 
-abbrev pub numbered : Reply → rules.NameReply
-numbered (Err r) = rules.reply_refused (number_of r)
-numbered (Ok b) = rules.replied b
-
-abbrev pub reply_of : rules.NameReply → Reply
+abbrev pub reply_of : rules.NameReply → Result Bool Refusal
 reply_of a = pick (eqb a.number 0) (Ok a.yes) (Err (refusal_of a.number))
 
-abbrev pub Replied : (Tree → List ℕ → Bool) → List ℕ → List ℕ → Reply → Type 0
+abbrev pub Replied : (Tree → List ℕ → Bool) → List ℕ → List ℕ → Result Bool Refusal → Type 0
 Replied asked s w r = Stands numbered reply_of (rules.ask asked s w) r
 
 -- yes as a number
@@ -49,27 +43,22 @@ one_of false = 0
 
 -- A list, with the lent words before and after
 
-abbrev pub Listed : Type 0
-Listed = Result ℕ Unlisted
-
 -- 1 to 8 the image's refusal, 9 where there is no room
 abbrev pub unlisted_by : Unlisted → ℕ
-unlisted_by (unlisted.Image r) = number_of r
-unlisted_by unlisted.Room = 9
+unlisted_by = elim [ unlisted.Image r ↦ number_of r | unlisted.Room ↦ 9 ]
 
 abbrev pub unlisted_of : ℕ → Unlisted
 unlisted_of r = pick (eqb r 9) unlisted.Room (unlisted.Image (refusal_of r))
 
-abbrev pub listing_of : Listed → rules.ListReply
-listing_of (Err r) = rules.list_refused (unlisted_by r)
-listing_of (Ok k) = rules.list_has k
+abbrev pub listing_of : Result ℕ Unlisted → rules.ListReply
+listing_of = elim [ Ok k ↦ rules.list_has k | Err r ↦ rules.list_refused (unlisted_by r) ]
 
-abbrev pub listed_of : rules.ListReply → Listed
+abbrev pub listed_of : rules.ListReply → Result ℕ Unlisted
 listed_of a = pick (eqb a.number 0) (Ok a.records) (Err (unlisted_of a.number))
 
-abbrev pub ListedAll : List ℕ → List ℕ → Listed → List ℕ → Type 0
+abbrev pub ListedAll : List ℕ → List ℕ → Result ℕ Unlisted → List ℕ → Type 0
 ListedAll s words r words' = Stands listing_of listed_of (rules.list_answer s (length words)) r × (words' ≡ rules.list_buffer s words)
 
 -- a pass's part of it
-abbrev pub ListedPart : (Tree → List Rec) → List ℕ → List ℕ → Listed → List ℕ → Type 0
+abbrev pub ListedPart : (Tree → List Rec) → List ℕ → List ℕ → Result ℕ Unlisted → List ℕ → Type 0
 ListedPart pass s words r words' = Stands listing_of listed_of (part_answer pass s) r × (words' ≡ part_words pass s words)
