@@ -4,7 +4,8 @@ use Rattle.std.proofs.Common.{◌∙◌, sym, ap, arith}
 use borrow.Author.Tests.{eq-eqb, ne_eqb, lt-ltb, le-ltb}
 use Rattle.image.specs.Admit.{refusal, header_refusal, admission_of}
 use Rattle.image.specs.declared.Image.{Image}
-use Rattle.std.specs.Prelude.{Option, None, Some, Ok, Err}
+use Rattle.std.specs.Prelude.{Option, None, Some, Result, Ok, Err}
+use Rattle.std.specs.Result.{result_ok}
 use Rattle.image.specs.declared.Refusal.{Refusal}
 use Rattle.image.specs.Refusals.{number_of, refusal_of}
 use Rattle.image.proofs.Refusals.{known, positive, below-nine}
@@ -24,6 +25,11 @@ module _ (s : List ℕ) (z : refusal s ≡ 0) where
 
   pub header-in-order : (k : Refusal) → admission_of (header_refusal s) s ≡ Err k → ⊥
   header-in-order k e = let n = (refused-is (header_refusal s) s k e).0 in n (sym (refused-early s n) ∙ z)
+
+-- so its header is read
+pub is-read : (s : List ℕ) → refusal s ≡ 0 → (r : Result Image Refusal) → r ≡ admission_of (header_refusal s) s → None ≡ result_ok r → ⊥
+is-read s z (Ok i) e n = cc
+is-read s z (Err k) e n = header-in-order s z k (sym e)
 
 abbrev pub refuses : Offence → Verdict
 refuses o = Ok (Some o)

@@ -1,16 +1,15 @@
 -- `note` meets its contract: the numbers of each case.
 use mathlib.Core.Path.{◌∙◌, sym, ap}
 use lib.Seq.{sets}
-use Rattle.passes.specs.declared.Verdict.{Verdict}
-use Rattle.typeck.specs.Face.{answer_of}
+use Rattle.typeck.specs.Face.{Verdict, answer_of}
 use Rattle.isonkaypu.specs.Plain.{row}
 use Rattle.isonkaypu.proofs.note.Goals as goal
 
-pub returns-in-Image : goal.returns-in-Image
-returns-in-Image c = c.store.ensures ∙ ap (λ (v : Verdict). sets c.args.numbers.now c.args.at (row (answer_of v))) (sym c.in-Image.is)
+pub returns-in-Err : goal.returns-in-Err
+returns-in-Err c = rw c.number.ensures at c.store.ensures ∙ ap (λ (v : Verdict). sets c.args.numbers.now c.args.at (row (answer_of v))) (sym c.in-Err.is)
 
-pub returns-in-Accepted : goal.returns-in-Accepted
-returns-in-Accepted c = c.store-in-Accepted.ensures ∙ ap (λ (v : Verdict). sets c.args.numbers.now c.args.at (row (answer_of v))) (sym c.in-Accepted.is)
+pub returns-in-Ok-None : goal.returns-in-Ok-None
+returns-in-Ok-None c = c.store-in-Ok-None.ensures ∙ ap (λ (v : Verdict). sets c.args.numbers.now c.args.at (row (answer_of v))) (sym c.in-Ok-None.is)
 
-pub returns-in-Refused : goal.returns-in-Refused
-returns-in-Refused c = c.store-in-Refused.ensures ∙ ap (λ (v : Verdict). sets c.args.numbers.now c.args.at (row (answer_of v))) (sym c.in-Refused.is)
+pub returns-in-Ok-Some : goal.returns-in-Ok-Some
+returns-in-Ok-Some c = rw (c.from.ensures, c.from-in-Ok-Some.ensures) at c.store-in-Ok-Some.ensures ∙ ap (λ (v : Verdict). sets c.args.numbers.now c.args.at (row (answer_of v))) (sym c.in-Ok-Some.is)
