@@ -37,13 +37,15 @@ fn give(v: Verdict, place: &mut u16, from: &mut u32, to: &mut u32) -> usize
     *to = 0;
     match v {
         Err(refusal) => refusal.number(),
-        Ok(None) => 0,
-        Ok(Some(offence)) => {
-            *place = offence.place;
-            *from = offence.from;
-            *to = offence.to;
-            usize::from(offence.code)
-        }
+        Ok(verdict) => match verdict {
+            None => 0,
+            Some(offence) => {
+                *place = offence.place;
+                *from = offence.from;
+                *to = offence.to;
+                usize::from(offence.code)
+            }
+        },
     }
 }
 
@@ -104,15 +106,17 @@ fn note(v: Verdict, numbers: &mut [usize; 12], at: usize)
 {
     match v {
         Err(refusal) => store(numbers, at, refusal.number(), 0, 0, 0),
-        Ok(None) => store(numbers, at, 0, 0, 0, 0),
-        Ok(Some(offence)) => store(
-            numbers,
-            at,
-            usize::from(offence.code),
-            usize::from(offence.place),
-            offence.from as usize,
-            offence.to as usize,
-        ),
+        Ok(verdict) => match verdict {
+            None => store(numbers, at, 0, 0, 0, 0),
+            Some(offence) => store(
+                numbers,
+                at,
+                usize::from(offence.code),
+                usize::from(offence.place),
+                offence.from as usize,
+                offence.to as usize,
+            ),
+        },
     }
 }
 

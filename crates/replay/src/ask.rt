@@ -36,7 +36,7 @@ pub struct Verdicts {
     pub linear: Verdict,
 }
 
-pub fn verdicts(image: &[u8]) -> Verdicts
+pub fn verdicts_of(image: &[u8]) -> Verdicts
     ensures { Judged resolve image.now result.resolve × Judged access image.now result.access × Judged linear image.now result.linear }
 {
     match typeck::verdicts(image) {

@@ -83,7 +83,7 @@ fn verdicts_differ(
     ensures ok { IfOk result (λ n. (n ≡ verdict_differences file.now at case.refusal image.now) × (n ≤ 3)) }
     ensures err { OnErr result (0 < verdict_differences file.now at case.refusal image.now) }
 {
-    let verdicts = ask::verdicts(image);
+    let verdicts = ask::verdicts_of(image);
     let a = pass_differs(rt, case, "verdicts, resolve", file, at, verdicts.resolve)?;
     let b = pass_differs(rt, case, "verdicts, access", file, at + 12, verdicts.access)?;
     let c = pass_differs(rt, case, "verdicts, linear", file, at + 24, verdicts.linear)?;

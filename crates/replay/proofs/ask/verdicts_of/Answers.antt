@@ -1,5 +1,5 @@
--- `verdicts` meets its contract: each of the three, or the refusal in place of each.
-use Rattle.replay.proofs.ask.verdicts.Goals as goal
+-- `verdicts_of` meets its contract: each of the three, or the refusal in place of each.
+use Rattle.replay.proofs.ask.verdicts_of.Goals as goal
 
 pub returns-in-Err : goal.returns-in-Err
 returns-in-Err c = rw c.in-Err.is at c.verdicts.ensures
