@@ -6,61 +6,18 @@ use mathlib.Core.List.{List}
 use mathlib.Core.Logic.{⊎_elim}
 use native.Mathlib.Numerals.{add-one}
 use native.Mathlib.Omega.{arith}
-use borrow.Author.Tests.{eqb-true, le-leb, lt-leb, lt-ltb, le-ltb, leb-true, ne_eqb}
+use borrow.Author.Tests.{eqb-true, le-leb, lt-ltb, le-ltb, leb-true}
 use lib.Dec.{ltb, leb, eqb}
 use lib.ListN.{length, get_or, drop, length-take, length-drop}
 use lib.Seq.{get_or-take, get_or-drop}
 use Rattle.std.specs.Ordering.{ord_min, nat_cmp}
 use Rattle.std.proofs.lemmas.Bool.Decides.{nat_tests}
-use Rattle.image.specs.Pick.{pick, both, every, among}
+use Rattle.image.specs.Pick.{pick, both, every}
 use Rattle.name_table.specs.Bytes.{all_words}
 use Rattle.image.specs.Text.{class_of, word_at, form_of, slice, off_of, names_ok}
 use Rattle.image.proofs.Decide.{lt-or-ge}
-use Rattle.image.proofs.Every.{both_left, both_right, both_false, every-next, every-so, every-at}
+use Rattle.image.proofs.Every.{both_left, both_right, every-next, every-so, every-at}
 use Rattle.image.proofs.Tree.{named}
-
--- whether a byte is in a range, and its class by that: a letter or `_`, a digit, none of them
-in-range : (low high b : ℕ) → low ≤ b → b ≤ high → among low high b ≡ true
-in-range low high b l h = simp (le-leb low b l, le-leb b high h)
-
-below-range : (low high b : ℕ) → b < low → among low high b ≡ false
-below-range low high b h = simp (lt-leb low b h)
-
-above-range : (low high b : ℕ) → high < b → among low high b ≡ false
-above-range low high b h = rw (lt-leb b high h) (both_false (leb low b))
-
-module _ (b : ℕ) where
-  pub class-small-letter : 97 ≤ b → b < 123 → 1 ≡ class_of b
-  unfolding class_of
-  class-small-letter l h = rw (in-range 97 122 b l (omega arith)) refl
-
-  pub class-capital : 65 ≤ b → b < 91 → 1 ≡ class_of b
-  unfolding class_of
-  class-capital l h = rw (below-range 97 122 b (omega arith), in-range 65 90 b l (omega arith)) refl
-
-  pub class-line : b ≡ 95 → 1 ≡ class_of b
-  unfolding class_of
-  class-line e = rw e refl
-
-  pub class-digit : 48 ≤ b → b < 58 → 2 ≡ class_of b
-  unfolding class_of
-  class-digit l h = rw (below-range 97 122 b (omega arith), below-range 65 90 b (omega arith), ne_eqb b 95 (omega arith), in-range 48 57 b l (omega arith)) refl
-
-  class-by : among 97 122 b ≡ false → among 65 90 b ≡ false → (b ≡ 95 → ⊥) → among 48 57 b ≡ false → 0 ≡ class_of b
-  unfolding class_of
-  class-by x y n z = rw (x, y, ne_eqb b 95 n, z) refl
-
-  pub class-low : b < 48 → 0 ≡ class_of b
-  class-low h = class-by (below-range 97 122 b (omega arith)) (below-range 65 90 b (omega arith)) (omega arith) (below-range 48 57 b h)
-
-  pub class-middle : 58 ≤ b → b < 65 → 0 ≡ class_of b
-  class-middle l h = class-by (below-range 97 122 b (omega arith)) (below-range 65 90 b h) (omega arith) (above-range 48 57 b l)
-
-  pub class-between : 91 ≤ b → b < 97 → (b ≡ 95 → ⊥) → 0 ≡ class_of b
-  class-between l h n = class-by (below-range 97 122 b h) (above-range 65 90 b l) n (above-range 48 57 b (omega arith))
-
-  pub class-high : 123 ≤ b → 0 ≡ class_of b
-  class-high l = class-by (above-range 97 122 b l) (above-range 65 90 b (omega arith)) (omega arith) (above-range 48 57 b (omega arith))
 
 -- the lower of two classes is one exactly when both are
 lower-both : (c d : ℕ) → leb 1 (pick (ltb c d) c d) ≡ both (leb 1 d) (leb 1 c)

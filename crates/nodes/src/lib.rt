@@ -1,7 +1,8 @@
 // Nodes read from a part of the node area whose first node is number `base`; a mark for each name; the walk down an expression.
 #![tactic(auto)]
 
-ghost use Rattle.std.specs.Prelude.{◌≡◌, Bool, List, [], ◌∷◌, ℕ, ◌≤◌};
+ghost use Rattle.std.specs.Prelude.{◌≡◌, Bool, List, [], ◌∷◌, ℕ, ◌+◌, ◌-◌, ◌≤◌, ◌⊎◌};
+ghost use Rattle.image.specs.Node.{end_of};
 ghost use Rattle.image.specs.Admit.{node_count};
 ghost use Rattle.rules.specs.Sweep.{also, has, same, has_word};
 ghost use Rattle.rules.specs.Tree.{peels, state, type_holders};
@@ -211,6 +212,18 @@ pub fn down(past: Past, nodes: &[u8], base: usize, x: usize) -> usize
         }
     }
     to
+}
+
+// The next node of a walk over the items and the fields of a contract: into a State, past any other node.
+pub fn next_declaration(nodes: &[u8], base: usize, p: usize) -> usize
+    requires { In nodes.now base p }
+    ensures moved { (W : View nodes.now base) → result ≡ onward (tree_of W) state p }
+    ensures goes_on { (result ≡ p + 1) ⊎ (result ≡ end_of nodes.now (p - base)) }
+{
+    if kind(nodes, base, p) == STATE {
+        return p + 1;
+    }
+    image::end(nodes, p - base)
 }
 
 // The kinds that may hold a Type.

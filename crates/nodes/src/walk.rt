@@ -120,11 +120,7 @@ impl<'a> Iterator for Declarations<'a> {
             return None;
         }
         let p = self.at;
-        if crate::kind(self.nodes, 0, p) == crate::STATE {
-            self.at = p + 1;
-            return Some(p);
-        }
-        self.at = image::end(self.nodes, p);
+        self.at = crate::next_declaration(self.nodes, 0, p);
         Some(p)
     }
 }

@@ -71,7 +71,7 @@ fn answered_with(words: &[u16], k: usize, head: Numbers) -> Numbers
 fn record_differs(
     rt: &impl Print,
     case: Case,
-    asked: &str,
+    asked: &[u8],
     file: &[u8],
     at: usize,
     words: &[u16],
@@ -91,7 +91,7 @@ fn record_differs(
 fn others(
     rt: &impl Print,
     case: Case,
-    asked: &str,
+    asked: &[u8],
     file: &[u8],
     at: usize,
     words: &[u16],
@@ -155,7 +155,7 @@ pub fn parts_of(file: &[u8], at: usize, count: usize) -> Parts
 pub fn records_differ(
     rt: &impl Print,
     case: Case,
-    asked: &str,
+    asked: &[u8],
     file: &[u8],
     part: Part,
     answer: Numbers,

@@ -32,11 +32,24 @@ impl fmt::Display for Numbers {
     }
 }
 
+// What was asked for are any bytes, written as they are.
+fn line(
+    rt: &impl Print,
+    image: usize,
+    asked: &[u8],
+    recorded: Numbers,
+    answered: Numbers,
+) -> io::Result<()> {
+    print!(rt; "image {image}, ")?;
+    rt.write_all(asked)?;
+    println!(rt; ": recorded {recorded}, answered {answered}")
+}
+
 // 1 where the answer is not the recorded one, which is then told.
 pub fn differs(
     rt: &impl Print,
     case: Case,
-    asked: &str,
+    asked: &[u8],
     recorded: Numbers,
     answered: Numbers,
 ) -> io::Result<usize>
@@ -46,8 +59,7 @@ pub fn differs(
     if recorded == answered {
         return Ok(0);
     }
-    let number = case.number;
-    println!(rt; "image {number}, {asked}: recorded {recorded}, answered {answered}")?;
+    line(rt, case.number, asked, recorded, answered)?;
     Ok(1)
 }
 
@@ -55,7 +67,7 @@ pub fn differs(
 pub fn verdict_differs(
     rt: &impl Print,
     case: Case,
-    asked: &str,
+    asked: &[u8],
     file: &[u8],
     at: usize,
     answer: Numbers,
@@ -77,7 +89,7 @@ pub fn verdict_differs(
 pub fn answer_differs(
     rt: &impl Print,
     case: Case,
-    asked: &str,
+    asked: &[u8],
     file: &[u8],
     at: usize,
     answer: Numbers,

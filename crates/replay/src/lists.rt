@@ -31,7 +31,7 @@ fn answer_in(asked: Asked, image: &[u8], words: &mut [u16], size: usize) -> Numb
 fn list_in(
     rt: &impl Print,
     case: Case,
-    name: &str,
+    name: &[u8],
     asked: Asked,
     file: &[u8],
     part: Part,
@@ -50,7 +50,7 @@ fn list_in(
 fn list_differs(
     rt: &impl Print,
     case: Case,
-    name: &str,
+    name: &[u8],
     asked: Asked,
     file: &[u8],
     part: Part,
@@ -76,7 +76,7 @@ fn short_differs(rt: &impl Print, case: Case, count: usize, image: &[u8]) -> io:
     let mut words = blank();
     let answer = answer_in(Asked::Whole, image, &mut words, RECORD_WORDS * count - 1);
     let recorded = Numbers(9, 0, 0, 0, 0, 0);
-    recording::differs(rt, case, "list, one word short", recorded, answer)
+    recording::differs(rt, case, b"list, one word short", recorded, answer)
 }
 
 // Each pass's list against its part of the recorded one.
@@ -99,14 +99,14 @@ fn parts_differ(
     let a = list_differs(
         rt,
         case,
-        "resolve_list",
+        b"resolve_list",
         Asked::Resolve,
         file,
         resolve,
         image,
     )?;
-    let b = list_differs(rt, case, "access_list", Asked::Access, file, access, image)?;
-    let c = list_differs(rt, case, "linear_list", Asked::Linear, file, linear, image)?;
+    let b = list_differs(rt, case, b"access_list", Asked::Access, file, access, image)?;
+    let c = list_differs(rt, case, b"linear_list", Asked::Linear, file, linear, image)?;
     Ok(a + b + c)
 }
 
@@ -125,7 +125,7 @@ pub fn differ(
 {
     let whole = recording::part_of(at, count);
     let parts = recording::parts_of(file, at, count);
-    let a = list_differs(rt, case, "list", Asked::Whole, file, whole, image)?;
+    let a = list_differs(rt, case, b"list", Asked::Whole, file, whole, image)?;
     let b = short_differs(rt, case, count, image)?;
     let c = parts_differ(rt, case, file, parts, image)?;
     Ok(a + b + c)

@@ -38,7 +38,7 @@ struct Step {
 fn pass_differs(
     rt: &impl Print,
     case: Case,
-    asked: &str,
+    asked: &[u8],
     file: &[u8],
     at: usize,
     verdict: Verdict,
@@ -64,10 +64,10 @@ fn passes_differ(
 {
     let recorded = Numbers(case.refusal, 0, 0, 0, 0, 0);
     let refused = ask::of_refusal(typeck::refused(image));
-    let a = recording::differs(rt, case, "refused", recorded, refused)?;
-    let b = pass_differs(rt, case, "resolve", file, at, typeck::resolve(image))?;
-    let c = pass_differs(rt, case, "access", file, at + 12, typeck::access(image))?;
-    let d = pass_differs(rt, case, "linear", file, at + 24, typeck::linear(image))?;
+    let a = recording::differs(rt, case, b"refused", recorded, refused)?;
+    let b = pass_differs(rt, case, b"resolve", file, at, typeck::resolve(image))?;
+    let c = pass_differs(rt, case, b"access", file, at + 12, typeck::access(image))?;
+    let d = pass_differs(rt, case, b"linear", file, at + 24, typeck::linear(image))?;
     Ok(a + b + c + d)
 }
 
@@ -84,9 +84,9 @@ fn verdicts_differ(
     ensures err { OnErr result (0 < verdict_differences file.now at case.refusal image.now) }
 {
     let verdicts = ask::verdicts_of(image);
-    let a = pass_differs(rt, case, "verdicts, resolve", file, at, verdicts.resolve)?;
-    let b = pass_differs(rt, case, "verdicts, access", file, at + 12, verdicts.access)?;
-    let c = pass_differs(rt, case, "verdicts, linear", file, at + 24, verdicts.linear)?;
+    let a = pass_differs(rt, case, b"verdicts, resolve", file, at, verdicts.resolve)?;
+    let b = pass_differs(rt, case, b"verdicts, access", file, at + 12, verdicts.access)?;
+    let c = pass_differs(rt, case, b"verdicts, linear", file, at + 24, verdicts.linear)?;
     Ok(a + b + c)
 }
 
@@ -103,14 +103,14 @@ fn lent_differs(
     ensures err { OnErr result (0 < pass_difference linear file.now (at + 24) case.refusal image.now) }
 {
     let verdict = linear_lent::linear_here(image);
-    pass_differs(rt, case, "linear, rows lent", file, at + 24, verdict)
+    pass_differs(rt, case, b"linear, rows lent", file, at + 24, verdict)
 }
 
 // An answer of the face about a name against the recorded one.
 fn reply_differs(
     rt: &impl Print,
     case: Case,
-    asked: &str,
+    asked: &[u8],
     file: &[u8],
     at: usize,
     reply: Result<bool, Refusal>,
@@ -138,9 +138,9 @@ fn questions_differ(
     let state = typeck::is_state(image, name);
     let declared = typeck::is_declared_asset(image, name);
     let known = typeck::is_known_asset(image, name);
-    let a = reply_differs(rt, case, "is_state", file, at, state)?;
-    let b = reply_differs(rt, case, "is_declared_asset", file, at + 1, declared)?;
-    let c = reply_differs(rt, case, "is_known_asset", file, at + 2, known)?;
+    let a = reply_differs(rt, case, b"is_state", file, at, state)?;
+    let b = reply_differs(rt, case, b"is_declared_asset", file, at + 1, declared)?;
+    let c = reply_differs(rt, case, b"is_known_asset", file, at + 2, known)?;
     Ok(a + b + c)
 }
 
