@@ -211,5 +211,14 @@ pub fn offset(names: &[u8], k: usize) -> usize
 pub fn below(t: &[u8], u: &[u8]) -> bool
     ensures { result ≡ less t.now u.now }
 {
-    t < u
+    // Not `t < u`: byte by byte an edit can fold their case (`name_folded`), and what it breaks is a fact.
+    for k in 0..u.len() {
+        if t.len() <= k {
+            return true;
+        }
+        if t[k] != u[k] {
+            return t[k] < u[k];
+        }
+    }
+    false
 }
