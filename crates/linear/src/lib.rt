@@ -123,7 +123,7 @@ fn entries(
     ensures { Adds (seen_linear linear nodes.now words reader.now tables.old.burned tables.old.places tables.old.first tables.old.last tables.old.tallies) (3070 * 2048) out.old out.new 0 result }
 {
     let mut total = 0;
-    for item in Children::of(nodes, 0, 0) {
+    for item in Children::from(nodes, 0, 0, 1) {
         total = entry(words, nodes, item, reader, tables, out, total);
     }
     total

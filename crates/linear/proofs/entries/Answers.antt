@@ -19,7 +19,7 @@ loop-item-init c =
     let d = c.requires in
     let T = d.0 in
     let e = c.into_iter-item-iterator.ensures.into_iter_gives in
-    let b = c.of-item-items.ensures in
+    let b = c.from-item-items.ensures in
     let at = at-first e b.0 in
     let S = span_below T.known.view T.root (ends-at 0 e b.1 T.known.view) in
     (begun e b.0, S, rw at (sweep-starts S.order), λ T. (T.clean, rw at d.1))
@@ -42,7 +42,7 @@ loop-item-preserved c =
     let S = rw (← t.is) at i.2 in
     let q = rw (← t.is) at i.3 in
     let W = c.requires.0.known.view in
-    let to = ends-at 0 c.into_iter-item-iterator.ensures.into_iter_gives c.of-item-items.ensures.1 in
+    let to = ends-at 0 c.into_iter-item-iterator.ensures.into_iter_gives c.from-item-items.ensures.1 in
     let m = child-on W c.requires.0.root (to W) S.low t.before (t.moved W) in
     let r = c.entry-total.ensures in (
       t.still,
@@ -58,5 +58,5 @@ pub returns : goal.returns
 unfolding linear
 returns c =
     let i = c.loop-item.invariant in
-    let to = ends-at 0 c.into_iter-item-iterator.ensures.into_iter_gives c.of-item-items.ensures.1 in
+    let to = ends-at 0 c.into_iter-item-iterator.ensures.into_iter_gives c.from-item-items.ensures.1 in
     swept i.2 (ended i.0 c.in-None.ensures.steps.3) (λ T. let t = tree_of T.known.view in run-below t entry (linear_entry t) 0 1 _ refl (to T.known.view)) (let u = i.1.under in omega arith)
