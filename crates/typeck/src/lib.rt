@@ -97,7 +97,8 @@ pub fn list(image: &[u8], words: &mut [u16]) -> Result<usize, Unlisted>
     if words.len() < 4 * passes::count_all(image, head) {
         return Err(Unlisted::Room);
     }
-    Ok(passes::fill(image, head, words))
+    let count = passes::fill(image, head, words);
+    Ok(count)
 }
 
 // A pass's part of the list, from the buffer's start: what fits is written, all is counted.
@@ -133,7 +134,8 @@ fn reply_of(question: Question, image: &[u8], name: &[u8]) -> Result<bool, Refus
     ensures { Replied (question_of question) image.now name.now result }
 {
     let head = admission::admit(image)?;
-    Ok(model::holds(question, image, head, name))
+    let yes = model::holds(question, image, head, name);
+    Ok(yes)
 }
 
 // Whether the name is that of a state field.
