@@ -1,12 +1,10 @@
 -- From the answer of admission: the header of an admitted image, the number of a refusal.
-use Prim.Native.Nat.{ℕ, ◌≤◌}
-use mathlib.Core.Path.{◌≡◌, refl, ap, ◌∙◌}
-use mathlib.Core.Bool.{Bool, true, false}
+use Prim.Native.Nat.{ℕ}
+use mathlib.Core.Path.{◌≡◌, ap, ◌∙◌}
 use mathlib.Core.List.{List}
-use native.Mathlib.Omega.{arith}
 use Rattle.std.specs.Prelude.{Ok, Err}
-use Rattle.image.specs.Refusals.{number_of, refusal_of}
-use Rattle.image.specs.Admit.{refusal, admission_of, node_count, name_count}
+use Rattle.image.specs.Refusals.{number_of}
+use Rattle.image.specs.Admit.{refusal, admission_of}
 use Rattle.image.specs.declared.Image.{Image}
 use Rattle.image.specs.declared.Refusal.{Refusal}
 use Rattle.image.proofs.Verdict.{admitted-is, refused-is}

@@ -1,12 +1,8 @@
 -- A walk by a cursor: it stays in its part and keeps its end, and each step goes on to the end of the child.
-use Prim.Native.Nat.{ℕ, ◌<◌, ◌≤◌}
-use mathlib.Core.Path.{◌≡◌, ◌∙◌, subst}
+use Prim.Native.Nat.{ℕ}
+use mathlib.Core.Path.{◌≡◌, subst}
 use mathlib.Core.List.{List}
-use native.Mathlib.Omega.{arith}
-use Rattle.nodes.specs.Shown.{View, In, tree_of}
-use Rattle.nodes.specs.declared.Cursor.{Cursor}
-use Rattle.nodes.specs.declared.Step.{Step}
-use Rattle.nodes.specs.Cursors.{Stepped}
+use Rattle.nodes.specs.Shown.{View, tree_of}
 
 -- a part is one, whichever way the number of its first node is written
 pub at_base : {nodes : List ℕ} {a q : ℕ} (p : ℕ) → ((W : View nodes a) → q ≡ (tree_of W).end p) → (b : ℕ) → a ≡ b → (W : View nodes b) → q ≡ (tree_of W).end p

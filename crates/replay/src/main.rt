@@ -85,8 +85,22 @@ fn verdicts_differ(
 {
     let verdicts = ask::verdicts_of(image);
     let a = pass_differs(rt, case, b"verdicts, resolve", file, at, verdicts.resolve)?;
-    let b = pass_differs(rt, case, b"verdicts, access", file, at + 12, verdicts.access)?;
-    let c = pass_differs(rt, case, b"verdicts, linear", file, at + 24, verdicts.linear)?;
+    let b = pass_differs(
+        rt,
+        case,
+        b"verdicts, access",
+        file,
+        at + 12,
+        verdicts.access,
+    )?;
+    let c = pass_differs(
+        rt,
+        case,
+        b"verdicts, linear",
+        file,
+        at + 24,
+        verdicts.linear,
+    )?;
     Ok(a + b + c)
 }
 

@@ -1,5 +1,5 @@
 -- `next_declaration` meets its contract: into a State, past another node.
-use mathlib.Core.Path.{◌≡◌, refl, sym, ◌∙◌}
+use mathlib.Core.Path.{refl, sym, ◌∙◌}
 use mathlib.Core.Logic.{inl, inr}
 use Rattle.rules.specs.Tree.{state}
 use Rattle.records.proofs.Sweep.{has_one, has-not}
