@@ -50,7 +50,10 @@ impl From<Refusal> for Unlisted {
 pub fn refused(image: &[u8]) -> Option<Refusal>
     ensures { Stands refused_as refusal_as (refusal image.now) result }
 {
-    admission::admit(image).err()
+    match admission::admit(image) {
+        Err(refusal) => Some(refusal),
+        Ok(_head) => None,
+    }
 }
 
 fn verdict_of(pass: Pass, image: &[u8]) -> Verdict
